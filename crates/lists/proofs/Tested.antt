@@ -1,6 +1,6 @@
 -- A test of every item, one item on and at the end.
 use mathlib.Core.Path.{_≡_, refl, sym, ap, _∙_}
-use mathlib.Core.List.{List, [], _∷_, _++_}
+use mathlib.Core.List.{List, [], _∷_, _++_, map}
 use mathlib.Core.Bool.{Bool, true, false, _&&_}
 use Prim.Native.Nat.{ℕ, _+_, _<_, _≤_}
 use lib.ListN.{length, getD, drop}
@@ -19,3 +19,7 @@ module _ {A : Type 0} (t : A → Bool) (xs : List A) (i : ℕ) where
 pub every-push : {A : Type 0} (t : A → Bool) (xs : List A) (x : A) → every t xs ≡ true → t x ≡ true → every t (xs ++ x ∷ []) ≡ true
 every-push t [] x e h = and-from (t x) true h refl
 every-push t (y ∷ ys) x e h = let p = and-parts (t y) (every t ys) e in and-from (t y) (every t (ys ++ x ∷ [])) (p .0) (every-push t ys x (p .1) h)
+
+pub every-map : {A B : Type 0} (f : A → B) (t : B → Bool) (xs : List A) → every t (map f xs) ≡ every (λ x. t (f x)) xs
+every-map f t [] = refl
+every-map f t (x ∷ xs) = ap (λ (b : Bool). t (f x) && b) (every-map f t xs)
