@@ -4,7 +4,7 @@ ghost use Rattle.texts.specs.Numbers.{text-number, line-number};
 ghost use Rattle.texts.specs.declared.faults.LineFault.the-variants.{Text};
 
 // The questions of the text layer. The number of one is what is answered where it gets a no.
-#[derive(Clone, Copy, PartialEq, Eq, Debug)]
+#[derive(Clone, Copy)]
 pub enum TextQuestion {
     Side = 10,
     Length = 11,
@@ -14,7 +14,7 @@ pub enum TextQuestion {
 }
 
 // A question that got a no, and the text line, counted from 1; line 0 is the call as a whole.
-#[derive(Clone, Copy, PartialEq, Eq, Debug)]
+#[derive(Clone, Copy)]
 pub struct TextFault {
     pub question: TextQuestion,
     pub line: usize,
@@ -29,7 +29,7 @@ impl TextFault {
 }
 
 // Why a text line is not handed out: there is no such side, or no such line.
-#[derive(Clone, Copy, PartialEq, Eq, Debug)]
+#[derive(Clone, Copy)]
 pub enum LineFault {
     Text(TextFault),
     Missing,

@@ -7,7 +7,7 @@ ghost use Rattle.texts.specs.Outputs.{fitted, laid};
 use lists::BoundedVec;
 
 // Why an output is refused: the text does not fit.
-#[derive(Clone, Copy, PartialEq, Eq, Debug)]
+#[derive(Clone, Copy)]
 pub enum OutputFault {
     TooShort = 71,
 }

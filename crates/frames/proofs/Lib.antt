@@ -1,0 +1,3 @@
+pub mod Ranged
+pub mod Shapes
+pub mod Said
