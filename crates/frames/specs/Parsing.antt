@@ -10,7 +10,7 @@ use Rattle.std.specs.declared.result.Result.the-variants.{Ok, Err}
 use Rattle.lists.specs.Between.{between}
 use Rattle.texts.specs.Answers.{asked, after, lifted}
 use Rattle.texts.specs.Lines.{Lines}
-use Rattle.texts.specs.Reading.{first-bytes}
+use Rattle.texts.specs.Reading.{line-bytes, first-bytes}
 use Rattle.frames.specs.declared.faults.FrameQuestion.{FrameQuestion}
 use Rattle.frames.specs.declared.faults.FrameQuestion.the-variants.{Kind, Size, Range}
 use Rattle.frames.specs.declared.faults.FrameFault.{FrameFault}
@@ -49,6 +49,10 @@ frame-answer at bs =
     asked (between 1 3 (getD bs 0 0)) (frame-fault Kind at)
     (asked (sized (getD bs 0 0) (length bs)) (frame-fault Size at)
     (ranged at bs (frame-of bs)))
+
+-- the frame of a text line without its 0A
+abbrev pub line-frame : ℕ → List ℕ → Result FrameModel FrameFault
+line-frame at l = after (lifted Text (line-bytes at l)) (frame-answer at)
 
 -- the frame of the first line, and the lines after it
 abbrev pub first-frame : ℕ → Lines → Result (FrameModel × Lines) FrameFault
