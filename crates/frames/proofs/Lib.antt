@@ -1,3 +1,4 @@
 pub mod Ranged
 pub mod Shapes
 pub mod Said
+pub mod Trips

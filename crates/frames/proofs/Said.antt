@@ -14,6 +14,7 @@ use Rattle.std.proofs.shelf.Tests.{and-parts, and-from, eqb-true, eqb-false, le
 use Rattle.lists.specs.Between.{between}
 use Rattle.lists.specs.Every.{every}
 use Rattle.texts.specs.Answers.{asked}
+use Rattle.texts.proofs.Asked.{asked-ok}
 use Rattle.pages.specs.declared.Source.{Source}
 use Rattle.pages.specs.declared.Source.the-variants.{Kept, Taken}
 use Rattle.pages.specs.declared.LineKind.{LineKind}
@@ -28,10 +29,6 @@ use Rattle.frames.specs.Bytes.{frame-bytes, sound, source-sound, kind-sound, n
 -- the frame has these bytes and is in range
 abbrev pub Says : List ℕ → FrameModel → Type 0
 Says bs f = (frame-bytes f ≡ bs) × (sound f ≡ true)
-
-pub asked-ok : {A E : Type 0} (b : Bool) (e : E) (r : Result A E) (x : A) → asked b e r ≡ Ok x → (b ≡ true) × (r ≡ Ok x)
-asked-ok true e r x h = (refl, h)
-asked-ok false e r x h = let z : _≡_ {A = ℕ} 0 1 = cc in absurd (omega arith)
 
 -- start numbers stand from place 4 on, sources from place 6 on
 number-late : (place b : ℕ) → 4 ≤ place → header-ok place b ≡ true → leb b 7 ≡ true
