@@ -1,9 +1,9 @@
 // The frame layer of dumps: what the bytes of a line say, and the bytes again.
 pub mod bytes;
 pub mod faults;
-pub mod fields;
+mod fields;
 pub mod parsing;
-pub mod ranges;
+mod ranges;
 
 use lists::BoundedVec;
 use pages::Line;
