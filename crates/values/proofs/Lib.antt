@@ -1,0 +1,3 @@
+pub mod Searched
+pub mod Signed
+pub mod Put
