@@ -34,7 +34,7 @@ longer-some b (ended l ls) = tt
 
 some-line : (t : List ℕ) → 0 < length t → Some-line (lines-of t)
 some-line [] h = absurd (omega arith)
-some-line (b ∷ t) h = go (eqb b 10)
+some-line (b ∷ t) h = go (eqb 10 b)
   where
     go : (e : Bool) → Some-line (cond e (ended [] (lines-of t)) (longer b (lines-of t)))
     go true = tt

@@ -1,4 +1,4 @@
--- Where the first line of a text ends, and what that says of its lines.
+-- What the end of a text's first line says of its lines.
 use mathlib.Core.Path.{_≡_, refl, sym, ap, _∙_}
 use mathlib.Core.List.{List, [], _∷_}
 use mathlib.Core.Bool.{Bool, true, false, cond}
@@ -6,42 +6,12 @@ use Prim.Native.Nat.{ℕ, zero, suc, _+_, _-_, _≤_, _<_}
 use native.Mathlib.Omega.{arith}
 use native.Mathlib.Numerals.{add-one}
 use lib.Dec.{eqb}
-use lib.ListN.{length, take, drop, getD}
-use Rattle.std.specs.Options.{mapped}
-use Rattle.std.specs.Finite.{nth}
+use lib.ListN.{length, take, drop}
+use Rattle.std.specs.Options.{mapped, Cases}
+use Rattle.values.proofs.Searched.{place-good}
 use Rattle.std.specs.declared.option.Option.{Option}
 use Rattle.std.specs.declared.option.Option.the-variants.{Some, None}
-use Rattle.std.proofs.shelf.Lists.{at-drop-more, at-drop-all}
-use Rattle.std.proofs.shelf.Tests.{eq-eqb, ne-eqb, cond-true, cond-false}
-use Rattle.texts.specs.Lines.{Lines, last, ended, longer, lines-of, pieces, ended-at}
-
--- an end found n bytes beyond the first i
-abbrev pub beyond : ℕ → Option ℕ → Option ℕ
-beyond i o = mapped (λ n. i + n) o
-
-pub beyond-zero : (o : Option ℕ) → o ≡ beyond 0 o
-beyond-zero None = refl
-beyond-zero (Some n) = ap Some (omega arith)
-
-beyond-suc : (i : ℕ) (o : Option ℕ) → beyond i (mapped suc o) ≡ beyond (i + 1) o
-beyond-suc i None = refl
-beyond-suc i (Some n) = ap Some (omega arith)
-
-module _ (s : List ℕ) (i : ℕ) where
-  pub end-here : i < length s → getD s i 0 ≡ 10 → beyond i (ended-at (drop i s)) ≡ Some i
-  end-here h e =
-      at-drop-more (λ l. beyond i (ended-at l)) s i 0 h
-      ∙ ap (beyond i) (cond-true _ _ _ (eq-eqb (getD s i 0) 10 e))
-      ∙ ap Some (omega arith)
-
-  pub end-later : i < length s → (getD s i 0 ≡ 10 → ⊥) → beyond i (ended-at (drop i s)) ≡ beyond (i + 1) (ended-at (drop (i + 1) s))
-  end-later h ne =
-      at-drop-more (λ l. beyond i (ended-at l)) s i 0 h
-      ∙ ap (beyond i) (cond-false _ _ _ (ne-eqb (getD s i 0) 10 ne))
-      ∙ beyond-suc i (ended-at (drop (i + 1) s))
-
-  pub end-none : length s ≤ i → beyond i (ended-at (drop i s)) ≡ None
-  end-none h = at-drop-all (λ l. beyond i (ended-at l)) s i h
+use Rattle.texts.specs.Lines.{Lines, last, ended, longer, lines-of, ended-at}
 
 -- a text's lines, by where its first line ends
 abbrev pub Split : List ℕ → Option ℕ → Type 0
@@ -59,7 +29,7 @@ split-more b bs false (Some n) h = (ap (longer b) (h .0), omega (arith, h .1))
 
 pub split : (t : List ℕ) → Split t (ended-at t)
 split [] = refl
-split (b ∷ bs) = split-more b bs (eqb b 10) (ended-at bs) (split bs)
+split (b ∷ bs) = split-more b bs (eqb 10 b) (ended-at bs) (split bs)
 
 -- the same, from what the search for the end answered
 pub split-at : (t : List ℕ) (n : ℕ) → Some n ≡ ended-at t → lines-of t ≡ ended (take n t) (lines-of (drop (n + 1) t))
@@ -76,3 +46,8 @@ unsplit t e = go (ended-at t) (split t) e
     go : (o : Option ℕ) → Split t o → None ≡ o → lines-of t ≡ last t
     go None h is = h
     go (Some m) h is = let z : _≡_ {A = ℕ} 0 1 = cc in absurd (omega arith)
+
+-- the end stands within the text
+pub end-within : (t : List ℕ) (o : Option ℕ) → o ≡ ended-at t → Cases o (Unit {0}) (λ n. n < length t)
+end-within t None e = tt
+end-within t (Some n) e = place-good (eqb 10) t n 0 e .0

@@ -114,16 +114,16 @@ text-longer : (b : ℕ) (ls : Lines) → text-of (longer b ls) ≡ b ∷ text-of
 text-longer b (last l) = refl
 text-longer b (ended l ls) = refl
 
-line-first : (b : ℕ) (bs : List ℕ) (e : Bool) → eqb b 10 ≡ e → text-of (lines-of bs) ≡ bs → text-of (cond e (ended [] (lines-of bs)) (longer b (lines-of bs))) ≡ b ∷ bs
-line-first b bs true e h = λ i. sym (eqb-true b 10 e) i ∷ h i
+line-first : (b : ℕ) (bs : List ℕ) (e : Bool) → eqb 10 b ≡ e → text-of (lines-of bs) ≡ bs → text-of (cond e (ended [] (lines-of bs)) (longer b (lines-of bs))) ≡ b ∷ bs
+line-first b bs true e h = λ i. eqb-true 10 b e i ∷ h i
 line-first b bs false e h = text-longer b (lines-of bs) ∙ ap (λ l. b ∷ l) h
 
 pub lines-back : (t : List ℕ) → text-of (lines-of t) ≡ t
 lines-back [] = refl
-lines-back (b ∷ bs) = line-first b bs (eqb b 10) refl (lines-back bs)
+lines-back (b ∷ bs) = line-first b bs (eqb 10 b) refl (lines-back bs)
 
 -- a digit does not end a line
-char-goes-on : (v : ℕ) → eqb (char v) 10 ≡ false
+char-goes-on : (v : ℕ) → eqb 10 (char v) ≡ false
 char-goes-on v = grind (arith, tells)
 
 goes-on : (v : ℕ) (t : List ℕ) → lines-of (char v ∷ t) ≡ longer (char v) (lines-of t)

@@ -3,10 +3,10 @@ use mathlib.Core.List.{List, [], _∷_}
 use mathlib.Core.Bool.{cond}
 use Prim.Native.Nat.{ℕ, zero, suc}
 use lib.Dec.{eqb}
-use Rattle.std.specs.Options.{mapped}
 use Rattle.std.specs.Finite.{nth}
 use Rattle.std.specs.declared.option.Option.{Option}
-use Rattle.std.specs.declared.option.Option.the-variants.{Some, None}
+use Rattle.std.specs.declared.option.Option.the-variants.{None}
+use Rattle.values.specs.Places.{first-place}
 
 -- each line that 0A ends, then what follows the last 0A
 pub data Lines : Type 0 where
@@ -20,7 +20,7 @@ longer b (ended l ls) = ended (b ∷ l) ls
 
 abbrev pub lines-of : List ℕ → Lines
 lines-of [] = last []
-lines-of (b ∷ bs) = cond (eqb b 10) (ended [] (lines-of bs)) (longer b (lines-of bs))
+lines-of (b ∷ bs) = cond (eqb 10 b) (ended [] (lines-of bs)) (longer b (lines-of bs))
 
 -- the lines without their 0A; a last piece of one byte or more is a line too
 abbrev pub pieces : Lines → List (List ℕ)
@@ -35,5 +35,4 @@ line-at ls (suc n) = nth (pieces ls) n
 
 -- where the first 0A stands
 abbrev pub ended-at : List ℕ → Option ℕ
-ended-at [] = None
-ended-at (b ∷ bs) = cond (eqb b 10) (Some 0) (mapped suc (ended-at bs))
+ended-at t = first-place (eqb 10) t

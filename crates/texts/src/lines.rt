@@ -15,18 +15,15 @@ use crate::faults::TextFault;
 use crate::faults::TextQuestion;
 use crate::hex::line_bytes;
 use lists::BoundedVec;
+use values::kinds::ByteKind;
+use values::search::position;
 
 // Where the first 0A stands.
 fn line_end(text: &[u8]) -> Option<usize>
     ensures is { λ r. ⌜ r ≡ ended-at (now (text .entry)) ⌝ }
     ensures within { λ r. ⌜ BySome r (Unit {0}) (λ n. n < length (now (text .entry))) ⌝ }
 {
-    for (i, b) in text.iter().enumerate() {
-        if *b == 0x0A {
-            return Some(i);
-        }
-    }
-    None
+    position(text, &0x0A)
 }
 
 // Has the text at most 4,096 bytes?
