@@ -1,3 +1,4 @@
 pub mod Pushes
 pub mod Extends
 pub mod Tested
+pub mod Kept
