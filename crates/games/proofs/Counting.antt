@@ -14,11 +14,11 @@ use Rattle.games.proofs.Closing.{Closed}
 use Rattle.games.proofs.Members.{every-listed, every-replies}
 use Rattle.games.proofs.Winning.{wins}
 use Rattle.games.specs.Counts.{forces, within, has-count, Count-is}
-use Rattle.games.specs.Held.{Held, answers, Holds}
+use Rattle.games.specs.Held.{Held, answers, Holds, Held-by}
 use Rattle.games.specs.Listing.{listed}
 use Rattle.games.specs.Meaning.{Meaning, Challenge, replies-at}
 use Rattle.games.specs.Ways.{Way, sure, Sure-within, Fails, each-reply, chosen}
-use Rattle.lists.proofs.Tested.{by-true, by-false, same-test, every-mono, any-mono, any-both, every-both, any-ext, every-ext, number, number-le, number-more, every-not}
+use Rattle.lists.proofs.Tested.{by-true, by-false, same-test, every-mono, any-mono, any-both, every-both, any-ext, every-ext, number, number-le, number-more, every-not, any-nth, every-nth}
 use Rattle.lists.specs.Every.{any, every}
 
 pub forces-mono : (m : Meaning) (p q : ℕ → Bool) (x : ℕ) → ((y : ℕ) → p y ≡ true → q y ≡ true) → forces m p x ≡ true → forces m q x ≡ true
@@ -195,3 +195,14 @@ still-none m xs n x closed still h e k =
 
 pub still-holds : (m : Meaning) (xs : List ℕ) (n : ℕ) → Closed m xs → Still m xs n → listed (m .start) xs ≡ true → within m n (m .start) ≡ false → Holds m
 still-holds m xs n closed still h e = (unforced m xs n, still-held m xs n closed still, and-from (listed (m .start) xs) _ h (ap not e))
+
+-- no set of any sort is held with a code that has a count
+pub held-by-uncounted : (m : Meaning) (S : ℕ → Type 0) → Held-by m S → (n x : ℕ) → S x → within m n x ≡ true → ⊥
+held-by-uncounted m S held zero x e h = false≢true h
+held-by-uncounted m S held (suc n) x e h =
+    let c = any-nth (λ c. every (within m n) (c .replies)) (m .at x) (within-forces m n x h) in
+    let r = held x e (c .0) (c .1) (c .2) in
+    held-by-uncounted m S held n (r .1) (r .3) (every-nth (within m n) (c .1 .replies) (r .0) (r .1) (c .3) (r .2))
+
+pub fails-unheld : (m : Meaning) (r : ℕ) → has-count m r (m .start) ≡ true → Holds m → ⊥
+fails-unheld m r h s = holds-not-count m r s h

@@ -165,3 +165,13 @@ every-push t (y ∷ ys) x e h = let p = and-parts (t y) (every t ys) e in and-fr
 pub every-map : {A B : Type 0} (f : A → B) (t : B → Bool) (xs : List A) → every t (map f xs) ≡ every (λ x. t (f x)) xs
 every-map f t [] = refl
 every-map f t (x ∷ xs) = ap (λ (b : Bool). t (f x) && b) (every-map f t xs)
+
+-- items by their places
+pub any-nth : {A : Type 0} (p : A → Bool) (xs : List A) → any p xs ≡ true → (i : ℕ) × (a : A) × (nth xs i ≡ Some a) × (p a ≡ true)
+any-nth p [] h = absurd (false≢true h)
+any-nth p (x ∷ xs) h = ⊎-elim (λ e. (0, x, refl, e)) (λ e. let r = any-nth p xs e in (suc (r .0), r .1, r .2, r .3)) (or-cases (p x) (any p xs) h)
+
+pub every-nth : {A : Type 0} (p : A → Bool) (xs : List A) (k : ℕ) (a : A) → every p xs ≡ true → nth xs k ≡ Some a → p a ≡ true
+every-nth p [] k a h e = let z : _≡_ {A = ℕ} 0 1 = cc in absurd (omega arith)
+every-nth p (x ∷ xs) zero a h e = let q : a ≡ x = cc in ap p q ∙ and-parts (p x) (every p xs) h .0
+every-nth p (x ∷ xs) (suc k) a h e = every-nth p xs k a (and-parts (p x) (every p xs) h .1) e

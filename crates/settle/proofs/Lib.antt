@@ -1,0 +1,5 @@
+pub mod Growth
+pub mod Lister
+pub mod Turns
+pub mod Fills
+pub mod Answered
