@@ -11,6 +11,7 @@ use Rattle.std.specs.Joined.{joined}
 use Rattle.std.proofs.shelf.Tests.{and-parts, and-from, leb-true, le-leb, ltb-true, eqb-true}
 use Rattle.lists.specs.Between.{between}
 use Rattle.lists.specs.Every.{every}
+use Rattle.lists.proofs.Tested.{every-append, every-so}
 use Rattle.texts.specs.Digits.{hexes, line-text}
 use Rattle.texts.proofs.Trips.{is-byte, hexes-length}
 use Rattle.pages.specs.declared.Name.{Name}
@@ -26,16 +27,6 @@ use Rattle.frames.specs.Fields.{name-byte, source-byte, kind-byte, third-byte}
 use Rattle.frames.specs.Bytes.{frame-bytes, sound, kind-sound, source-sound, name-sound}
 use Rattle.frames.proofs.Trips.{frame-size}
 use Rattle.dump.specs.Written.{header-of, frames-of, frame-text, written}
-
--- a test that holds of the items of two lists holds of both together
-every-append : {A : Type 0} (t : A → Bool) (xs ys : List A) → every t xs ≡ true → every t ys ≡ true → every t (xs ++ ys) ≡ true
-every-append t [] ys e f = f
-every-append t (x ∷ xs) ys e f = let p = and-parts (t x) (every t xs) e in and-from (t x) _ (p .0) (every-append t xs ys (p .1) f)
-
--- a test that follows from another, item by item
-every-so : {A B : Type 0} (f : A → B) (t : A → Bool) (u : B → Bool) → ((x : A) → t x ≡ true → u (f x) ≡ true) → (xs : List A) → every t xs ≡ true → every u (map f xs) ≡ true
-every-so f t u so [] e = refl
-every-so f t u so (x ∷ xs) e = let p = and-parts (t x) (every t xs) e in and-from (u (f x)) _ (so x (p .0)) (every-so f t u so xs (p .1))
 
 slots-few : (ss : List Screen) (i : ℕ) → every few-slots ss ≡ true → slots-at ss i ≤ 4
 slots-few [] i e = omega arith

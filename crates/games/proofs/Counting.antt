@@ -10,12 +10,11 @@ use Rattle.std.specs.declared.option.Option.{Option}
 use Rattle.std.specs.declared.option.Option.the-variants.{Some, None}
 use native.Mathlib.Omega.{arith}
 use Rattle.std.proofs.shelf.Tests.{and-parts, and-from, or-cases, or-left, or-right, or-parts, or-from, cases-bool, both-ways, not-true, cases-lt, cases-order, and-cases, cond-both}
-use Rattle.games.proofs.Closing.{Closed}
 use Rattle.games.proofs.Members.{every-listed, every-replies}
 use Rattle.games.proofs.Winning.{wins}
 use Rattle.games.specs.Counts.{forces, within, has-count, Count-is}
 use Rattle.games.specs.Held.{Held, answers, Holds, Held-by}
-use Rattle.games.specs.Listing.{listed}
+use Rattle.games.specs.Listing.{listed, Closed}
 use Rattle.games.specs.Meaning.{Meaning, Challenge, replies-at}
 use Rattle.games.specs.Ways.{Way, sure, Sure-within, Fails, each-reply, chosen}
 use Rattle.lists.proofs.Tested.{by-true, by-false, same-test, every-mono, any-mono, any-both, every-both, any-ext, every-ext, number, number-le, number-more, every-not, any-nth, every-nth}

@@ -1,6 +1,5 @@
 pub mod Members
 pub mod Winning
-pub mod Closing
 pub mod Counting
 pub mod Listed
 pub mod Reaching

@@ -15,9 +15,8 @@ use Rattle.std.proofs.shelf.Maps.{nth-getD, nth-past}
 use Rattle.std.specs.Finite.{nth}
 use Rattle.std.specs.declared.option.Option.{Option}
 use Rattle.std.specs.declared.option.Option.the-variants.{Some, None}
-use Rattle.games.proofs.Closing.{Closed}
 use Rattle.games.proofs.Members.{every-listed, every-from-listed}
-use Rattle.games.specs.Listing.{listed, with-new, listing, expanded, Reached, at-start, at-reply}
+use Rattle.games.specs.Listing.{listed, with-new, listing, expanded, Reached, at-start, at-reply, Closed}
 use Rattle.games.specs.Meaning.{Meaning, Challenge, replies-at}
 use Rattle.lists.proofs.Tested.{every-mono, every-append}
 use Rattle.lists.specs.Every.{any, every}

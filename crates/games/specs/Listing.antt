@@ -8,7 +8,7 @@ use lib.ListN.{length}
 use Rattle.std.specs.Finite.{nth}
 use Rattle.std.specs.declared.option.Option.{Option}
 use Rattle.std.specs.declared.option.Option.the-variants.{Some, None}
-use Rattle.lists.specs.Every.{any}
+use Rattle.lists.specs.Every.{every, any}
 use Rattle.games.specs.Meaning.{Meaning, replies-at}
 
 -- y stands in the list
@@ -41,3 +41,7 @@ expanded m seen (Some x) = with-new seen (replies-at (m .at x))
 abbrev pub listing : Meaning → ℕ → List ℕ
 listing m zero = m .start ∷ []
 listing m (suc k) = expanded m (listing m k) (nth (listing m k) k)
+
+-- each reply at a code of the list is in the list
+abbrev pub Closed : Meaning → List ℕ → Type 0
+Closed m xs = (x : ℕ) → listed x xs ≡ true → every (λ y. listed y xs) (replies-at (m .at x)) ≡ true

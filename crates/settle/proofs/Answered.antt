@@ -15,13 +15,12 @@ use Rattle.std.proofs.shelf.Tests.{both-ways, and-from}
 use Rattle.std.specs.Finite.{nth}
 use Rattle.std.specs.declared.option.Option.{Option}
 use Rattle.std.specs.declared.option.Option.the-variants.{Some, None}
-use Rattle.games.proofs.Closing.{Closed}
 use Rattle.games.proofs.Counting.{Still, rounds, count-within, still-holds, fails-from, fails-unheld, held-by-uncounted, sure-iff}
 use Rattle.games.proofs.Reaching.{listing-reached, listing-more, more-listing}
 use Rattle.games.proofs.Listed.{listing-closed, listing-start, listing-some, with-new-front, reached-listed}
 use Rattle.games.specs.Counts.{within, has-count, Count-is}
 use Rattle.games.specs.Held.{Holds}
-use Rattle.games.specs.Listing.{listed, listing, expanded, More-than}
+use Rattle.games.specs.Listing.{listed, listing, expanded, More-than, Closed}
 use Rattle.games.specs.Meaning.{Meaning, replies-at}
 use Rattle.games.specs.Ways.{Fails}
 use Rattle.lists.proofs.Tested.{by-false, number-le}

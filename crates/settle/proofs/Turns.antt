@@ -14,11 +14,10 @@ use Rattle.std.proofs.shelf.Tests.{cases-lt, cases-eq, cases-bool, cond-true, c
 use Rattle.std.proofs.shelf.Maps.{nth-getD}
 use Rattle.std.specs.declared.option.Option.{Option}
 use Rattle.std.specs.declared.option.Option.the-variants.{Some, None}
-use Rattle.games.proofs.Closing.{Closed}
 use Rattle.games.proofs.Counting.{has-before, has-within, within-forces, Still, still-none, count-le}
 use Rattle.games.proofs.Members.{every-replies, every-listed, any-listed, place-none}
 use Rattle.games.specs.Counts.{forces, within, has-count, Count-is}
-use Rattle.games.specs.Listing.{listed}
+use Rattle.games.specs.Listing.{listed, Closed}
 use Rattle.games.specs.Meaning.{Meaning, Challenge, replies-at}
 use Rattle.lists.proofs.Tested.{same-test, by-true, by-false, every-mono, any-mono, any-next, any-at, every-not}
 use Rattle.lists.specs.Every.{any, every}

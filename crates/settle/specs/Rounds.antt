@@ -11,7 +11,7 @@ use Rattle.lists.specs.Every.{any}
 use Rattle.values.specs.Places.{first-place}
 use Rattle.games.specs.Meaning.{Meaning}
 use Rattle.games.specs.Counts.{forces, has-count, Count-is}
-use Rattle.games.proofs.Closing.{Closed}
+use Rattle.games.specs.Listing.{Closed}
 
 -- the count beside the first place of y, 0 where y has none
 abbrev pub looked-up : List ℕ → Option ℕ → ℕ
