@@ -13,15 +13,11 @@ use Rattle.std.specs.Finite.{nth}
 use Rattle.std.specs.Options.{mapped}
 use Rattle.std.specs.declared.option.Option.{Option}
 use Rattle.std.specs.declared.option.Option.the-variants.{Some, None}
+use Rattle.lists.proofs.Tested.{nth-map}
 use Rattle.games.specs.Drawn.{drawn, code32, row-challenge, row-replies, rows-at, side-of}
 use Rattle.games.specs.Meaning.{Meaning, Challenge, Below, replies-at, next-at, next-of, side-at, replies-to}
 use Rattle.lists.specs.Every.{every}
 use Rattle.games.specs.declared.drawn.Row.{Row}
-
-pub nth-map : {A B : Type 0} (f : A → B) (xs : List A) (i : ℕ) → nth (map f xs) i ≡ mapped f (nth xs i)
-nth-map f [] i = refl
-nth-map f (x ∷ xs) zero = refl
-nth-map f (x ∷ xs) (suc i) = nth-map f xs i
 
 module _ (s : ℕ) (rows : List Row) (ys : List ℕ) (x n : ℕ) where
   -- the challenge at a position, from the row that was found

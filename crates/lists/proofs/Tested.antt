@@ -8,6 +8,7 @@ use native.Mathlib.Omega.{arith}
 use native.Mathlib.Numerals.{add-one}
 use lib.ListN.{length, getD, take, drop}
 use Rattle.std.specs.Finite.{nth}
+use Rattle.std.specs.Options.{mapped}
 use Rattle.std.specs.declared.option.Option.the-variants.{Some}
 use Rattle.std.proofs.shelf.Lists.{at-drop-more, at-drop-all}
 use Rattle.std.proofs.shelf.Tests.{and-parts, and-from, and-left, and-right, or-cases, or-left, or-right, or-parts, or-from, cases-bool, cond-both, cond-true, cond-false, not-true}
@@ -175,3 +176,8 @@ pub every-nth : {A : Type 0} (p : A → Bool) (xs : List A) (k : ℕ) (a : A) �
 every-nth p [] k a h e = let z : _≡_ {A = ℕ} 0 1 = cc in absurd (omega arith)
 every-nth p (x ∷ xs) zero a h e = let q : a ≡ x = cc in ap p q ∙ and-parts (p x) (every p xs) h .0
 every-nth p (x ∷ xs) (suc k) a h e = every-nth p xs k a (and-parts (p x) (every p xs) h .1) e
+
+pub nth-map : {A B : Type 0} (f : A → B) (xs : List A) (i : ℕ) → nth (map f xs) i ≡ mapped f (nth xs i)
+nth-map f [] i = refl
+nth-map f (x ∷ xs) zero = refl
+nth-map f (x ∷ xs) (suc i) = nth-map f xs i
