@@ -6,6 +6,8 @@ ghost use Rattle.pages.specs.Model.{line-model};
 ghost use Rattle.pages.specs.Stored.{page-model};
 ghost use Rattle.programs.specs.Places.{moved as moved-by, value-of};
 ghost use Rattle.programs.specs.Tables.{Moves-exactly};
+pub mod text;
+
 use pages::Line;
 use pages::LineKind;
 use pages::Slot;
