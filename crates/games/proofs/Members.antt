@@ -25,7 +25,7 @@ every-from-listed p [] f = refl
 every-from-listed p (x ∷ xs) f =
     and-from (p x) _ (f x (or-left (eqb x x) _ (eq-eqb x x refl))) (every-from-listed p xs (λ y e. f y (or-right (eqb y x) _ e)))
 
-pub every-replies : (p : ℕ → Bool) (cs : List Challenge) → every p (replies-at cs) ≡ true → every (λ c. every p (c .replies)) cs ≡ true
+pub every-replies : (p : ℕ → Bool) (cs : List (Challenge ℕ)) → every p (replies-at cs) ≡ true → every (λ c. every p (c .replies)) cs ≡ true
 every-replies p [] h = refl
 every-replies p (c ∷ cs) h = let ab = every-parts p (c .replies) (replies-at cs) h in and-from _ _ (ab .0) (every-replies p cs (ab .1))
 

@@ -15,7 +15,7 @@ use Rattle.games.specs.Drawn.{drawn, code32, of-code, row-challenge, row-repli
 use Rattle.games.specs.LeftOnly.{lefts, is-left, left-only}
 use Rattle.games.specs.declared.drawn.Row.{Row}
 
-pub every-lefts : (p : ℕ → Bool) (cs : List Challenge) → every p (replies-at cs) ≡ true → every p (replies-at (lefts cs)) ≡ true
+pub every-lefts : (p : ℕ → Bool) (cs : List (Challenge ℕ)) → every p (replies-at cs) ≡ true → every p (replies-at (lefts cs)) ≡ true
 every-lefts p [] h = refl
 every-lefts p (c ∷ cs) h =
     let ab = every-parts p (c .replies) (replies-at cs) h in

@@ -23,7 +23,7 @@ code32 y = y % 2 ^ 32
 abbrev pub row-replies : List ℕ → Row → List ℕ
 row-replies replies r = take (r .number) (drop (r .first) replies)
 
-abbrev pub row-challenge : List ℕ → Row → Challenge
+abbrev pub row-challenge : List ℕ → Row → Challenge ℕ
 row-challenge replies r = record { side = side-of (r .side); replies = map code32 (row-replies replies r) }
 
 abbrev pub of-code : ℕ → Row → Bool

@@ -23,4 +23,4 @@ Holds m = (s : ℕ → Bool) × Held m s × (s (m .start) ≡ true)
 
 -- a set of any sort: each challenge at each of its codes has a reply in the set
 abbrev pub Held-by : Meaning → (ℕ → Type 0) → Type 0
-Held-by m S = (x : ℕ) → S x → (i : ℕ) (c : Challenge) → nth (m .at x) i ≡ Some c → (k : ℕ) × (y : ℕ) × (nth (c .replies) k ≡ Some y) × S y
+Held-by m S = (x : ℕ) → S x → (i : ℕ) (c : Challenge ℕ) → nth (m .at x) i ≡ Some c → (k : ℕ) × (y : ℕ) × (nth (c .replies) k ≡ Some y) × S y

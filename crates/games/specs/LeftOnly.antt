@@ -16,7 +16,7 @@ abbrev pub some-left : Option Side → Bool
 some-left None = false
 some-left (Some s) = is-left s
 
-abbrev pub lefts : List Challenge → List Challenge
+abbrev pub lefts : {X : Type 0} → List (Challenge X) → List (Challenge X)
 lefts cs = kept-by (λ c. is-left (c .side)) cs
 
 abbrev pub left-only : Meaning → Meaning

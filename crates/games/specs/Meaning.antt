@@ -12,23 +12,27 @@ use Rattle.std.specs.declared.option.Option.the-variants.{Some, None}
 use Rattle.lists.specs.Every.{every}
 use Rattle.games.specs.declared.Side.{Side}
 
--- a challenge is made by a side; each reply leads to a code
-pub record Challenge : Type 0 where
+-- a challenge is made by a side; each reply leads to a position: in a match, a code
+pub record Challenge (X : Type 0) : Type 0 where
   pub side : Side
-  pub replies : List ℕ
+  pub replies : List X
+
+-- the challenges at each position
+abbrev pub Challenges : Type 0 → Type 0
+Challenges X = X → List (Challenge X)
 
 -- START, TOP, and the challenges at each code
 pub record Meaning : Type 0 where
   pub start : ℕ
   pub top : ℕ
-  pub at : ℕ → List Challenge
+  pub at : Challenges ℕ
 
 -- all replies of challenges, in order
-abbrev pub replies-at : List Challenge → List ℕ
+abbrev pub replies-at : {X : Type 0} → List (Challenge X) → List X
 replies-at [] = []
 replies-at (c ∷ cs) = c .replies ++ replies-at cs
 
-abbrev pub replies-of : Option Challenge → List ℕ
+abbrev pub replies-of : {X : Type 0} → Option (Challenge X) → List X
 replies-of None = []
 replies-of (Some c) = c .replies
 
@@ -39,7 +43,7 @@ side-at m x n = mapped (λ c. c .side) (nth (m .at x) n)
 abbrev pub replies-to : Meaning → ℕ → ℕ → Option ℕ
 replies-to m x n = mapped (λ c. length (c .replies)) (nth (m .at x) n)
 
-abbrev pub next-of : Option Challenge → ℕ → Option ℕ
+abbrev pub next-of : {X : Type 0} → Option (Challenge X) → ℕ → Option X
 next-of None k = None
 next-of (Some c) k = nth (c .replies) k
 

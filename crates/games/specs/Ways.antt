@@ -13,12 +13,12 @@ use Rattle.games.specs.Meaning.{Meaning, Challenge}
 abbrev pub Way : Type 0
 Way = List ℕ → Option ℕ
 
-abbrev pub chosen : List Challenge → Option ℕ → Option Challenge
+abbrev pub chosen : List (Challenge ℕ) → Option ℕ → Option (Challenge ℕ)
 chosen cs None = None
 chosen cs (Some i) = nth cs i
 
 -- all replies of the chosen challenge go on to a win
-abbrev pub each-reply : (ℕ → Bool) → Option Challenge → Bool
+abbrev pub each-reply : (ℕ → Bool) → Option (Challenge ℕ) → Bool
 each-reply p None = false
 each-reply p (Some c) = every p (c .replies)
 

@@ -56,7 +56,7 @@ module _ (m : Meaning) where
   uncounted-holds xs closed here none =
       ⊎-elim
       (λ s. still-holds m xs (s .0) closed (s .2) here (by-false _ (λ w. let k = count-within m (s .0) (m .start) w in both-ways _ (none (k .0)) (k .2))))
-      (λ l. absurd (omega (arith, number-le (within m (suc (length xs))) xs)))
+      (λ l. absurd (omega (arith, number-le (within (m .at) (suc (length xs))) xs)))
       (rounds m xs (suc (length xs)))
 
   module _ (N n : ℕ) (zs codes : List ℕ) (cleared : zs ≡ replicate N 0) (long : length codes ≡ N) (grown : Grown zs codes n (listing m (length zs))) where

@@ -86,11 +86,11 @@ module _ (first mid : List ℕ) (n : ℕ) (seen rs : List ℕ) (k y : ℕ) (insi
   reply-full same l = grow-full seen rs (take k rs) (y ∷ []) (drop (suc k) rs) parts-at first mid n a same l
 
 -- one challenge more of cs
-replies-at-append : (xs ys : List Challenge) → replies-at (xs ++ ys) ≡ replies-at xs ++ replies-at ys
+replies-at-append : (xs ys : List (Challenge ℕ)) → replies-at (xs ++ ys) ≡ replies-at xs ++ replies-at ys
 replies-at-append [] ys = refl
 replies-at-append (x ∷ xs) ys = ap (λ l. x .replies ++ l) (replies-at-append xs ys) ∙ sym (append-assoc (x .replies) (replies-at xs) (replies-at ys))
 
-replies-parts : (cs : List Challenge) (k : ℕ) → k < length cs → (replies-at cs ≡ replies-at (take k cs) ++ (replies-of (nth cs k) ++ replies-at (drop (suc k) cs))) × (replies-at (take (suc k) cs) ≡ replies-at (take k cs) ++ replies-of (nth cs k))
+replies-parts : (cs : List (Challenge ℕ)) (k : ℕ) → k < length cs → (replies-at cs ≡ replies-at (take k cs) ++ (replies-of (nth cs k) ++ replies-at (drop (suc k) cs))) × (replies-at (take (suc k) cs) ≡ replies-at (take k cs) ++ replies-of (nth cs k))
 replies-parts [] k l = absurd (omega arith)
 replies-parts (c ∷ cs) zero l = (refl, append-nil (c .replies))
 replies-parts (c ∷ cs) (suc k) l =
@@ -98,7 +98,7 @@ replies-parts (c ∷ cs) (suc k) l =
     ( ap (λ x. c .replies ++ x) (ih .0) ∙ sym (append-assoc (c .replies) (replies-at (take k cs)) _)
     , ap (λ x. c .replies ++ x) (ih .1) ∙ sym (append-assoc (c .replies) (replies-at (take k cs)) _) )
 
-module _ (first mid : List ℕ) (n : ℕ) (seen : List ℕ) (cs : List Challenge) (k : ℕ) (inside : k < length cs) (a : Grown first mid n (with-new seen (replies-at (take k cs)))) where
+module _ (first mid : List ℕ) (n : ℕ) (seen : List ℕ) (cs : List (Challenge ℕ)) (k : ℕ) (inside : k < length cs) (a : Grown first mid n (with-new seen (replies-at (take k cs)))) where
   pub challenge-step : (after : List ℕ) (n′ : ℕ) → Grown mid after n′ (with-new (take n mid) (replies-of (nth cs k))) → Grown first after n′ (with-new seen (replies-at (take (k + 1) cs)))
   challenge-step after n′ b =
       let p = replies-parts cs k inside in

@@ -28,11 +28,11 @@ marked xs rs n y = ltb 0 (count-beside xs rs y) && ltb (count-beside xs rs y) n
 -- the count of x among 1 to n, 0 where it has none there
 abbrev pub tally : Meaning → ℕ → ℕ → ℕ
 tally m zero x = 0
-tally m (suc n) x = cond (has-count m (suc n) x) (suc n) (tally m n x)
+tally m (suc n) x = cond (has-count (m .at) (suc n) x) (suc n) (tally m n x)
 
 -- the i-th code has no count, and some challenge has only replies with counts below n
 abbrev pub due : Meaning → List ℕ → List ℕ → ℕ → ℕ → Bool
-due m xs rs n i = eqb (getD rs i 0) 0 && forces m (marked xs rs n) (getD xs i 0)
+due m xs rs n i = eqb (getD rs i 0) 0 && forces (m .at) (marked xs rs n) (getD xs i 0)
 
 -- before round n: the list of codes is closed, and the counts below n stand beside them
 pub record Round-ready (m : Meaning) (xs rs : List ℕ) (n : ℕ) : Type 0 where
@@ -45,7 +45,7 @@ pub record Round-ready (m : Meaning) (xs rs : List ℕ) (n : ℕ) : Type 0 where
 pub record Round-done (m : Meaning) (xs rs : List ℕ) (n : ℕ) (given : Bool) : Type 0 where
   pub same : length xs ≡ length rs
   pub after : (k : ℕ) → k < length xs → getD rs k 0 ≡ tally m n (getD xs k 0)
-  pub given-is : given ≡ any (has-count m n) xs
+  pub given-is : given ≡ any (has-count (m .at) n) xs
 
 -- each code beside its count, 0 for none
 abbrev pub Counts-are : Meaning → List ℕ → List ℕ → Type 0

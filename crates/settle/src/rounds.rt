@@ -50,7 +50,7 @@ fn all_marked<M: Match>(game: &M, codes: &[u64], counts: &[u16], code: u64, at: 
 // Whether some challenge at a code has only replies with counts below n.
 fn forced<M: Match>(game: &M, codes: &[u64], counts: &[u16], code: u64, n: u16) -> bool
     requires { ⌜ length (now codes) ≡ length (now counts) ⌝ }
-    ensures { λ r. ⌜ r ≡ forces (M·Match .meaning (now (game .entry))) (marked (now (codes .entry)) (now (counts .entry)) n) code ⌝ }
+    ensures { λ r. ⌜ r ≡ forces (M·Match .meaning (now (game .entry)) .at) (marked (now (codes .entry)) (now (counts .entry)) n) code ⌝ }
 {
     for k in 0..game.count(code) {
         if all_marked(game, codes, counts, code, k, n) {

@@ -1,6 +1,6 @@
 use mathlib.Core.Path.{_≡_, sym, ap, _∙_, subst}
 use mathlib.Core.Bool.{Bool, false}
-use Prim.Native.Nat.{_<_}
+use Prim.Native.Nat.{ℕ, _<_}
 use lib.ListN.{length, take}
 use lib.Seq.{take-all}
 use Rattle.std.specs.Finite.{nth}
@@ -16,7 +16,7 @@ returns-then-all-marked g c =
     let p = marked (c .args .codes .now) (c .args .counts .now) (c .args .n) in
     let k = c .loop-k .k in
     let x = nth-here cs k (rw (c .count-k-end .ensures) at (c .loop-k-test .taken)) in
-    sym (any-at (λ (a : Challenge). every p (a .replies)) cs k (x .0) (x .1) (ap (λ o. every p (replies-of o)) (sym (x .1)) ∙ sym (c .all-marked .ensures) ∙ c .if-all-marked .taken))
+    sym (any-at (λ (a : Challenge ℕ). every p (a .replies)) cs k (x .0) (x .1) (ap (λ o. every p (replies-of o)) (sym (x .1)) ∙ sym (c .all-marked .ensures) ∙ c .if-all-marked .taken))
 
 pub loop-k-again : need.loop-k-again
 loop-k-again g c =
@@ -24,7 +24,7 @@ loop-k-again g c =
     let p = marked (c .args .codes .now) (c .args .counts .now) (c .args .n) in
     let k = c .loop-k .k in
     let x = nth-here cs k (rw (c .count-k-end .ensures) at (c .loop-k-test .taken)) in
-    any-next (λ (a : Challenge). every p (a .replies)) cs k (x .0) (x .1) (c .loop-k .inv) (ap (λ o. every p (replies-of o)) (sym (x .1)) ∙ sym (c .all-marked .ensures) ∙ c .if-all-marked .left)
+    any-next (λ (a : Challenge ℕ). every p (a .replies)) cs k (x .0) (x .1) (c .loop-k .inv) (ap (λ o. every p (replies-of o)) (sym (x .1)) ∙ sym (c .all-marked .ensures) ∙ c .if-all-marked .left)
 
 pub returns : need.returns
 returns g c =
