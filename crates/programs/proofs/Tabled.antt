@@ -16,7 +16,7 @@ use Rattle.pages.specs.declared.LineKind.{LineKind}
 use Rattle.pages.specs.declared.LineKind.the-variants.{Take, Show}
 use Rattle.pages.specs.Model.{LineModel, PageModel}
 use Rattle.pages.specs.Formed.{slots-at, source-stands, shown-stands, line-stands, line-formed, screens-formed, lines-formed, start-formed, well-formed}
-use Rattle.programs.specs.Places.{In, Place, Act, Moves, Shaped, after, carry, moved, shows, value-of}
+use Rattle.programs.specs.Places.{In, Place, Act, Moves, Shaped, after, carry, moved-by, shows, value-of}
 use Rattle.programs.specs.Programs.{Expr, var, val, Behaviour, input, output, sum, call, Summands, none, more, Among, at, bind, replace, replace-each, one, several, Clause, Step, OUT, IN, SUM, ID}
 use Rattle.programs.specs.Tables.{lines-of, numbers, source, acting, summand, summands, clauses, program, Moves-exactly}
 use Rattle.programs.proofs.Members.{map-map, map-same-in, of-kept, in-kept, every-in}
@@ -101,7 +101,7 @@ module _ {V : Type 0} where
     then v = call (l .next) (map val (carry vs v (l .sources)))
 
     line-step : (k : LineKind) (v : V) → every (source-stands k (length vs)) (l .sources) ≡ true → shown-stands k (length vs) ≡ true →
-        moved k vs v ≡ v → Step D (replace (form k) (slots-of vs)) (seen (shows k) v) (then v)
+        moved-by k vs v ≡ v → Step D (replace (form k) (slots-of vs)) (seen (shows k) v) (then v)
     line-step (Show s) v fits shown mv =
         subst (λ (e : Expr V). Step D (output (l .port) e (call (l .next) (map (at (slots-of vs)) args))) (seen true v) (then v))
         (sym (parameter₀ vs (s .0) v (ltb-true (s .0) (length vs) shown) ∙ ap val mv))
@@ -115,7 +115,7 @@ module _ {V : Type 0} where
 
     line-back : (k : LineKind) (μ : Act V) (B : Behaviour V) → every (source-stands k (length vs)) (l .sources) ≡ true → shown-stands k (length vs) ≡ true →
         Step D (replace (form k) (slots-of vs)) μ B →
-        (shows k ≡ μ .shows) × (l .port ≡ μ .port) × (moved k vs (μ .value) ≡ μ .value) × (B ≡ then (μ .value))
+        (shows k ≡ μ .shows) × (l .port ≡ μ .port) × (moved-by k vs (μ .value) ≡ μ .value) × (B ≡ then (μ .value))
     line-back (Show s) μ B fits shown st =
         let (d, e, m, t) = can D _ μ B st in
         ( ap (λ (a : Act V). a .shows) (sym m)

@@ -33,9 +33,12 @@ abbrev pub carry : {V : Type 0} → List V → V → List Source → List V
 carry vs v ss = map (value-of vs v) ss
 
 -- a SHOW moves with the value of the slot shown, a TAKE with any value v
-abbrev pub moved : {V : Type 0} → LineKind → List V → V → V
-moved Take vs v = v
-moved (Show s) vs v = getD vs (s .0) v
+abbrev pub moved-by : {V : Type 0} → LineKind → List V → V → V
+moved-by Take vs v = v
+moved-by (Show s) vs v = getD vs (s .0) v
+
+abbrev pub moved : {V : Type 0} → LineModel → List V → V → V
+moved l vs v = moved-by (l .kind) vs v
 
 abbrev pub shows : LineKind → Bool
 shows Take = false
@@ -55,7 +58,7 @@ pub record Act (V : Type 0) : Type 0 where
 abbrev pub Moves : {V : Type 0} → PageModel → Place V → Act V → Place V → Type 0
 Moves {V} g p a q =
     (l : LineModel) × In l (g .lines) × (l .from ≡ p .screen) × (shows (l .kind) ≡ a .shows) × (l .port ≡ a .port)
-    × (moved (l .kind) (p .slots) (a .value) ≡ a .value) × (q ≡ after l (p .slots) (a .value))
+    × (moved l (p .slots) (a .value) ≡ a .value) × (q ≡ after l (p .slots) (a .value))
 
 -- the place has a value for each slot of its screen
 abbrev pub Shaped : {V : Type 0} → PageModel → Place V → Type 0

@@ -4,7 +4,7 @@ ghost use Rattle.std.specs.Finite.{nth};
 ghost use Rattle.std.specs.Options.{mapped};
 ghost use Rattle.pages.specs.Model.{line-model};
 ghost use Rattle.pages.specs.Stored.{page-model};
-ghost use Rattle.programs.specs.Places.{moved as moved-by, value-of};
+ghost use Rattle.programs.specs.Places.{moved-by, value-of};
 ghost use Rattle.programs.specs.Tables.{Moves-exactly};
 pub mod text;
 

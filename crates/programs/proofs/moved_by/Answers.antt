@@ -9,7 +9,7 @@ use Rattle.std.proofs.shelf.Maps.{nth-getD, nth-past}
 use Rattle.lists.proofs.Tested.{nth-map}
 use Rattle.pages.specs.Model.{LineModel, line-model}
 use Rattle.pages.specs.Stored.{page-model}
-use Rattle.programs.specs.Places.{moved}
+use Rattle.programs.specs.Places.{moved-by}
 use Rattle.programs.proofs.Tabled.{moves-exactly}
 use Rattle.programs.proofs.moved_by.Needs as need
 
@@ -23,7 +23,7 @@ returns-then-number-lines g c =
         sym (ap (λ l. nth l n) (c .lines-lines .ensures)) ∙ nth-map line-model ls n
         ∙ ap (mapped line-model) (nth-getD ls n x (c .if-number-lines .taken) ∙ ap Some (sym (c .index-lines-number .is))) in
     record {
-      is = ap Some (c .moved .ensures) ∙ sym (ap (mapped (λ (l : LineModel). moved (l .kind) (c .args .slots .now) (c .args .value))) at);
+      is = ap Some (c .moved .ensures) ∙ sym (ap (mapped (λ (l : LineModel). moved-by (l .kind) (c .args .slots .now) (c .args .value))) at);
       exactly = moves-exactly _ (page-model p) (p .formed);
     }
 
@@ -35,6 +35,6 @@ returns-else-number-lines g c =
     let at : nth (page-model p .lines) n ≡ None =
         sym (ap (λ l. nth l n) (c .lines-lines .ensures)) ∙ nth-map line-model ls n ∙ ap (mapped line-model) (nth-past ls n (c .if-number-lines .left)) in
     record {
-      is = sym (ap (mapped (λ (l : LineModel). moved (l .kind) (c .args .slots .now) (c .args .value))) at);
+      is = sym (ap (mapped (λ (l : LineModel). moved-by (l .kind) (c .args .slots .now) (c .args .value))) at);
       exactly = moves-exactly _ (page-model p) (p .formed);
     }

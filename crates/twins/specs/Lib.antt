@@ -1,0 +1,5 @@
+pub mod Games
+pub mod Naming
+pub mod Fits
+pub mod Pairs
+pub mod Twins
