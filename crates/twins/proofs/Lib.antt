@@ -5,3 +5,4 @@ pub mod Names
 pub mod Steps
 pub mod Follows
 pub mod Forces
+pub mod Verdicts

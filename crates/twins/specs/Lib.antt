@@ -3,3 +3,4 @@ pub mod Naming
 pub mod Fits
 pub mod Pairs
 pub mod Twins
+pub mod Verdicts
