@@ -6,3 +6,8 @@ pub mod Steps
 pub mod Follows
 pub mod Forces
 pub mod Verdicts
+pub mod Counts
+pub mod Naming
+pub mod Strategies
+pub mod Judged
+pub mod Codes

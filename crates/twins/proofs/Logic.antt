@@ -4,7 +4,7 @@ use mathlib.Core.List.{List, [], _∷_}
 use mathlib.Core.Logic.{_⊎_, inl, inr}
 use mathlib.Core.Bool.{Bool, true, false, not, _&&_, _||_, Bool·beq}
 use Prim.Native.Nat.{ℕ}
-use lib.Dec.{T, eqb, eqb-refl}
+use lib.Dec.{T, eqb, eqb-refl, eqb→eq}
 use Rattle.lists.specs.Every.{every, any}
 use Rattle.programs.specs.Places.{In}
 
@@ -71,3 +71,17 @@ implies false b h t = absurd t
 pub implied : (a b : Bool) → (T a → T b) → T (not a || b)
 implied true b h = h tt
 implied false b h = tt
+
+pub eqb-true : (m n : ℕ) → m ≡ n → eqb m n ≡ true
+eqb-true m n e = go (eqb m n) (eq-eqb m n e)
+  where
+    go : (b : Bool) → T b → b ≡ true
+    go true t = refl
+    go false t = absurd t
+
+pub eqb-false : (m n : ℕ) → (m ≡ n → ⊥) → eqb m n ≡ false
+eqb-false m n h = go (eqb m n) (λ t. h (eqb→eq m n t))
+  where
+    go : (b : Bool) → (T b → ⊥) → b ≡ false
+    go true f = absurd (f tt)
+    go false f = refl

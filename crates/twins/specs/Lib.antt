@@ -2,5 +2,9 @@ pub mod Games
 pub mod Naming
 pub mod Fits
 pub mod Pairs
+pub mod NamingLaws
 pub mod Twins
 pub mod Verdicts
+pub mod Positions
+pub mod Judged
+pub mod Codes
