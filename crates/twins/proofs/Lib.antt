@@ -8,6 +8,7 @@ pub mod Forces
 pub mod Verdicts
 pub mod Counts
 pub mod Naming
+pub mod Equivalences
 pub mod Strategies
 pub mod Judged
 pub mod Codes

@@ -72,16 +72,20 @@ pub implied : (a b : Bool) → (T a → T b) → T (not a || b)
 implied true b h = h tt
 implied false b h = tt
 
-pub eqb-true : (m n : ℕ) → m ≡ n → eqb m n ≡ true
-eqb-true m n e = go (eqb m n) (eq-eqb m n e)
-  where
-    go : (b : Bool) → T b → b ≡ true
-    go true t = refl
-    go false t = absurd t
+pub yes : (b : Bool) → T b → b ≡ true
+yes true t = refl
+yes false t = absurd t
+
+pub no : (b : Bool) → (T b → ⊥) → b ≡ false
+no true f = absurd (f tt)
+no false f = refl
 
 pub eqb-false : (m n : ℕ) → (m ≡ n → ⊥) → eqb m n ≡ false
-eqb-false m n h = go (eqb m n) (λ t. h (eqb→eq m n t))
-  where
-    go : (b : Bool) → (T b → ⊥) → b ≡ false
-    go true f = absurd (f tt)
-    go false f = refl
+eqb-false m n h = no (eqb m n) (λ t. h (eqb→eq m n t))
+
+-- two tests that follow from one another
+pub same-test : (a b : Bool) → (T a → T b) → (T b → T a) → a ≡ b
+same-test true true f g = refl
+same-test true false f g = absurd (f tt)
+same-test false true f g = absurd (g tt)
+same-test false false f g = refl

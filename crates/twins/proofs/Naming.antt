@@ -14,7 +14,7 @@ use Rattle.programs.specs.Places.{In}
 use Rattle.std.specs.shelf.Lists.{kept-by}
 use Rattle.twins.proofs.Forces.{in-range}
 use Rattle.twins.proofs.Lists.{in-left, in-right, in-map, map-map, map-append, of-kept}
-use Rattle.twins.proofs.Logic.{eq-eqb, to-any, eqb-true, eqb-false}
+use Rattle.twins.proofs.Logic.{eq-eqb, to-any, yes, eqb-false}
 use Rattle.twins.proofs.Names.{in-firsts, name-one}
 use Rattle.twins.specs.Naming.{firsts, index, name}
 use Rattle.twins.specs.NamingLaws.{Pattern-names, Normal-again, Names-small}
@@ -75,7 +75,7 @@ pub name-test : (ns : List ℕ) (m n : ℕ) → In m ns → In n ns → eqb m n 
 name-test ns m n i j = go (eqb m n) refl
   where
     go : (b : Bool) → eqb m n ≡ b → b ≡ eqb (name eqb ns m) (name eqb ns n)
-    go true e = sym (eqb-true _ _ (ap (name eqb ns) (eqb→eq m n (subst T (sym e) tt))))
+    go true e = sym (yes _ (eq-eqb _ _ (ap (name eqb ns) (eqb→eq m n (subst T (sym e) tt)))))
     go false e = sym (eqb-false _ _ (λ q. subst T e (eq-eqb m n (name-one ns m n i j q))))
 
 pub name-again : (ns : List ℕ) (n : ℕ) → In n ns → name eqb (map (name eqb ns) ns) (name eqb ns n) ≡ name eqb ns n
@@ -147,109 +147,3 @@ firsts-push {A} e (x ∷ xs) y =
     go true false q = refl
     go false true q = rw q refl
     go false false q = rw q refl
-
-pub index-met : (n : ℕ) (ms ns : List ℕ) → In n ms → index eqb n (ms ++ ns) ≡ index eqb n ms
-index-met n [] ns i = absurd i
-index-met n (m ∷ ms) ns i = go (eqb n m) refl (index-met n ms ns) i
-  where
-    go : (b : Bool) → eqb n m ≡ b → (In n ms → index eqb n (ms ++ ns) ≡ index eqb n ms) → In n (m ∷ ms) →
-        cond b 0 (suc (index eqb n (ms ++ ns))) ≡ cond b 0 (suc (index eqb n ms))
-    go true e f i = refl
-    go false e f (inl q) = absurd (subst T e (eq-eqb n m q))
-    go false e f (inr j) = ap suc (f j)
-
-pub index-new : (n : ℕ) (ms : List ℕ) → (In n ms → ⊥) → index eqb n (ms ++ (n ∷ [])) ≡ length ms
-index-new n [] h = rw (eqb-true n n refl) refl
-index-new n (m ∷ ms) h = rw (eqb-false n m (λ q. h (inl q))) (ap suc (index-new n ms (λ i. h (inr i))))
-
--- what was named keeps its name
-pub name-kept : (ns : List ℕ) (m n : ℕ) → In n ns → name eqb (ns ++ (m ∷ [])) n ≡ name eqb ns n
-name-kept ns m n i =
-    ap (index eqb n) (firsts-push eqb ns m) ∙ index-met n (firsts eqb ns) (cond (any (λ x. eqb x m) ns) [] (m ∷ [])) (in-firsts n ns i)
-
--- a value not met before gets the next number
-pub name-next : (ns : List ℕ) (n : ℕ) → any (λ x. eqb x n) ns ≡ false → name eqb (ns ++ (n ∷ [])) n ≡ length (firsts eqb ns)
-name-next ns n e =
-    ap (index eqb n) (firsts-push eqb ns n ∙ ap (λ (b : Bool). firsts eqb ns ++ cond b [] (n ∷ [])) e)
-    ∙ index-new n (firsts eqb ns) (λ i. subst T e (to-any (λ x. eqb x n) ns n (of-firsts eqb n ns i) (eqb-refl n)))
-
-pub any-append : {A : Type 0} (t : A → Bool) (xs ys : List A) → any t xs ≡ false → any t ys ≡ false → any t (xs ++ ys) ≡ false
-any-append t [] ys e f = f
-any-append t (x ∷ xs) ys e f = go (t x) e (any-append t xs ys)
-  where
-    go : (b : Bool) → (b || any t xs) ≡ false → (any t xs ≡ false → any t ys ≡ false → any t (xs ++ ys) ≡ false) → (b || any t (xs ++ ys)) ≡ false
-    go true e r = e
-    go false e r = r e f
-
-pub none-more : (v : ℕ) (xs : List ℕ) (i : ℕ) → i < length xs → any (λ x. eqb x v) (take i xs) ≡ false → eqb (getD xs i 0) v ≡ false → any (λ x. eqb x v) (take (i + 1) xs) ≡ false
-none-more v xs i l e f = rw (take-more xs i 0 l) (any-append (λ x. eqb x v) (take i xs) (getD xs i 0 ∷ []) e (rw f refl))
-
--- the names of one value more
-pub names-push : (ns : List ℕ) (x : ℕ) → map (name eqb (ns ++ (x ∷ []))) (ns ++ (x ∷ [])) ≡ map (name eqb ns) ns ++ (name eqb (ns ++ (x ∷ [])) x ∷ [])
-names-push ns x =
-    map-append (name eqb (ns ++ (x ∷ []))) ns (x ∷ [])
-    ∙ ap (λ (l : List ℕ). l ++ (name eqb (ns ++ (x ∷ [])) x ∷ [])) (map-same-in _ _ ns (λ n i. name-kept ns x n i))
-
--- the loop's step: the new entry is the name of the new value
-pub names-more : (xs out : List ℕ) (i w : ℕ) → i < length xs → i < length out → take i out ≡ map (name eqb (take i xs)) (take i xs) →
-    name eqb (take i xs ++ (getD xs i 0 ∷ [])) (getD xs i 0) ≡ w → take (i + 1) (set out i w) ≡ map (name eqb (take (i + 1) xs)) (take (i + 1) xs)
-names-more xs out i w l k e q =
-    rw (take-more xs i 0 l)
-    (take-more-set out i w k ∙ (λ j. e j ++ (sym q j ∷ [])) ∙ sym (names-push (take i xs) (getD xs i 0)))
-
-pub getD-map-in : (f : ℕ → ℕ) (ns : List ℕ) (j : ℕ) → j < length ns → getD (map f ns) j 0 ≡ f (getD ns j 0)
-getD-map-in f [] j h = absurd (omega arith)
-getD-map-in f (n ∷ ns) zero h = refl
-getD-map-in f (n ∷ ns) (suc j) h = getD-map-in f ns j (omega arith)
-
--- a value met before at j has the name that stands at j
-pub name-met : (xs out : List ℕ) (i j : ℕ) → i ≤ length xs → j < i → take i out ≡ map (name eqb (take i xs)) (take i xs) → getD (take i xs) j 0 ≡ getD xs i 0 →
-    name eqb (take i xs ++ (getD xs i 0 ∷ [])) (getD xs i 0) ≡ getD out j 0
-name-met xs out i j l k e q =
-    ap (λ (x : ℕ). name eqb (take i xs ++ (x ∷ [])) x) (sym q)
-    ∙ name-kept (take i xs) (getD (take i xs) j 0) (getD (take i xs) j 0) (in-range (take i xs) j 0 inside)
-    ∙ sym (getD-map-in (name eqb (take i xs)) (take i xs) j inside)
-    ∙ ap (λ (l : List ℕ). getD l j 0) (sym e) ∙ getD-take i out j 0 k
-  where
-    inside : j < length (take i xs)
-    inside = let m = length-take i xs in omega (arith, m)
-
--- how many names a loop has given out
-pub next-bound : (xs : List ℕ) (i : ℕ) → length (firsts eqb (take i xs)) ≤ i
-next-bound xs i = let a = length-firsts eqb (take i xs) in let b = length-take i xs in omega arith
-
--- a value met before takes no new name, and one not met takes one
-pub next-same : (ns : List ℕ) (x : ℕ) → In x ns → length (firsts eqb (ns ++ (x ∷ []))) ≡ length (firsts eqb ns)
-next-same ns x i =
-    ap length (firsts-push eqb ns x)
-    ∙ go (any (λ z. eqb z x) ns) (to-any (λ z. eqb z x) ns x i (eqb-refl x))
-  where
-    go : (b : Bool) → T b → length (firsts eqb ns ++ cond b [] (x ∷ [])) ≡ length (firsts eqb ns)
-    go true t = ap length (append-nil (firsts eqb ns))
-    go false t = absurd t
-
-pub next-more : (ns : List ℕ) (x : ℕ) → any (λ z. eqb z x) ns ≡ false → length (firsts eqb (ns ++ (x ∷ []))) ≡ length (firsts eqb ns) + 1
-next-more ns x e =
-    ap length (firsts-push eqb ns x ∙ ap (λ (b : Bool). firsts eqb ns ++ cond b [] (x ∷ [])) e) ∙ length-append (firsts eqb ns) (x ∷ [])
-
--- the loop's invariant: the names so far, and the next name
-abbrev pub Named : List ℕ → List ℕ → ℕ → ℕ → Type 0
-Named xs out i next = (take i out ≡ map (name eqb (take i xs)) (take i xs)) × (next ≡ length (firsts eqb (take i xs)))
-
-pub named-met : (xs out : List ℕ) (i j next : ℕ) → i < length xs → i < length out → Named xs out i next →
-    j < length (take i xs) → getD (take i xs) j 0 ≡ getD xs i 0 → Named xs (set out i (getD out j 0)) (i + 1) next
-named-met xs out i j next l k (a, b) h e =
-    let m = length-take i xs in
-    ( names-more xs out i (getD out j 0) l k a (name-met xs out i j (omega arith) (omega (arith, m)) a e)
-    , b ∙ sym (ap (λ (ns : List ℕ). length (firsts eqb ns)) (take-more xs i 0 l)
-      ∙ next-same (take i xs) (getD xs i 0) (subst (λ (x : ℕ). In x (take i xs)) e (in-range (take i xs) j 0 h))))
-
-pub named-new : (xs out : List ℕ) (i next : ℕ) → i < length xs → i < length out → Named xs out i next →
-    any (λ x. eqb x (getD xs i 0)) (take i xs) ≡ false → Named xs (set out i next) (i + 1) (next + 1)
-named-new xs out i next l k (a, b) e =
-    ( names-more xs out i next l k a (name-next (take i xs) (getD xs i 0) e ∙ sym b)
-    , ap (λ (n : ℕ). n + 1) b ∙ sym (ap (λ (ns : List ℕ). length (firsts eqb ns)) (take-more xs i 0 l) ∙ next-more (take i xs) (getD xs i 0) e))
-
-pub named-all : (xs out : List ℕ) (i next : ℕ) → length xs ≤ i → length out ≤ i → Named xs out i next → out ≡ map (name eqb xs) xs
-named-all xs out i next l k (a, b) =
-    sym (take-all i out k) ∙ a ∙ ap (λ (ns : List ℕ). map (name eqb ns) ns) (take-all i xs l)
