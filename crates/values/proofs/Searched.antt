@@ -1,7 +1,7 @@
 -- The search for the first place, step by step, and what the place found says.
 use mathlib.Core.Path.{_≡_, refl, sym, ap, subst, _∙_}
 use mathlib.Core.List.{List, [], _∷_}
-use mathlib.Core.Bool.{Bool, true, false, cond}
+use mathlib.Core.Bool.{Bool, true, false, cond, _||_}
 use Prim.Native.Nat.{ℕ, suc, _+_, _≤_, _<_}
 use native.Mathlib.Omega.{arith}
 use lib.ListN.{length, drop, getD}
@@ -10,6 +10,7 @@ use Rattle.std.specs.declared.option.Option.{Option}
 use Rattle.std.specs.declared.option.Option.the-variants.{Some, None}
 use Rattle.std.proofs.shelf.Lists.{at-drop-more, at-drop-all}
 use Rattle.std.proofs.shelf.Tests.{cond-true, cond-false, cond-both}
+use Rattle.lists.specs.Every.{any}
 use Rattle.values.specs.Places.{first-place}
 
 -- a place found n elements beyond the first i
@@ -37,6 +38,13 @@ module _ {A : Type 0} (p : A → Bool) (xs : List A) (i : ℕ) where
   pub place-end : length xs ≤ i → beyond i (first-place p (drop i xs)) ≡ None
   place-end h = at-drop-all (λ l. beyond i (first-place p l)) xs i h
 
+abbrev Nothing : {A : Type 0} → Option A → Type 0
+Nothing None = Unit {0}
+Nothing (Some x) = ⊥
+
+none-some : {A : Type 0} {x : A} → _≡_ {A = Option A} None (Some x) → ⊥
+none-some {A} e = subst Nothing e tt
+
 module _ {A : Type 0} (p : A → Bool) where
   abbrev Good : List A → A → Option ℕ → Type 0
   Good xs d None = Unit {0}
@@ -53,3 +61,13 @@ module _ {A : Type 0} (p : A → Bool) where
   -- the place found is within the list, and its element passes
   pub place-good : (xs : List A) (i : ℕ) (d : A) → Some i ≡ first-place p xs → (i < length xs) × (p (getD xs i d) ≡ true)
   place-good xs i d e = subst (Good xs d) (sym e) (good xs d)
+
+  -- no place is found only where no element passes
+  pub place-none : (xs : List A) → None ≡ first-place p xs → any p xs ≡ false
+  place-none [] e = refl
+  place-none (x ∷ xs) e = go (p x) (first-place p xs) (place-none xs) e
+    where
+      go : (b : Bool) (o : Option ℕ) → (None ≡ o → any p xs ≡ false) → None ≡ cond b (Some 0) (mapped suc o) → (b || any p xs) ≡ false
+      go true o f e = absurd (none-some e)
+      go false None f e = f refl
+      go false (Some i) f e = absurd (none-some e)
