@@ -15,18 +15,13 @@ use Rattle.programs.specs.Places.{In}
 use Rattle.programs.proofs.Members.{map-same-in}
 use Rattle.twins.specs.Naming.{firsts, index, name}
 use Rattle.twins.specs.Twins.{Equivalence}
-use Rattle.twins.proofs.Lists.{map-append, in-kept}
+use Rattle.twins.proofs.Lists.{map-append}
 use Rattle.twins.proofs.Logic.{of-any, to-any, yes, same-test}
 use Rattle.twins.proofs.Forces.{in-range}
+use Rattle.twins.proofs.Names.{index-alike, in-firsts}
 use Rattle.twins.proofs.Naming.{firsts-push, of-firsts, length-firsts}
 
 module _ {A : Type 0} (e : A → A → Bool) (eqv : Equivalence e) where
-  -- values that mean the same have one index
-  pub index-alike : (x y : A) → T (e x y) → (zs : List A) → index e x zs ≡ index e y zs
-  index-alike x y t [] = refl
-  index-alike x y t (z ∷ zs) =
-      λ i. cond (same-test (e x z) (e y z) (λ s. eqv .through y x z (eqv .back x y t) s) (λ s. eqv .through x y z t s) i) 0 (suc (index-alike x y t zs i))
-
   index-met : (x : A) (ms ns : List A) → T (any (λ y. e x y) ms) → index e x (ms ++ ns) ≡ index e x ms
   index-met x [] ns h = absurd h
   index-met x (m ∷ ms) ns h = go (e x m) h (index-met x ms ns)
@@ -45,24 +40,12 @@ module _ {A : Type 0} (e : A → A → Bool) (eqv : Equivalence e) where
       go true k f = absurd (k tt)
       go false k f = ap suc (f k)
 
-  -- each value has one that means the same among the first occurrences
-  in-firsts : (x : A) (xs : List A) → In x xs → T (any (λ y. e x y) (firsts e xs))
-  in-firsts x [] i = absurd i
-  in-firsts x (y ∷ xs) (inl q) = to-any (λ z. e x z) (firsts e (y ∷ xs)) y (inl refl) (subst (λ (z : A). T (e x z)) q (eqv .itself x))
-  in-firsts x (y ∷ xs) (inr i) =
-      let (z, j, t) = of-any (λ z. e x z) (firsts e xs) (in-firsts x xs i) in
-      go z j t (e y z) refl
-    where
-      go : (z : A) → In z (firsts e xs) → T (e x z) → (b : Bool) → e y z ≡ b → T (any (λ z. e x z) (firsts e (y ∷ xs)))
-      go z j t true q = to-any (λ w. e x w) (firsts e (y ∷ xs)) y (inl refl) (eqv .through x z y t (eqv .back y z (subst T (sym q) tt)))
-      go z j t false q = to-any (λ w. e x w) (firsts e (y ∷ xs)) z (inr (in-kept (λ w. not (e y w)) z (firsts e xs) j (subst (λ b. T (not b)) (sym q) tt))) t
-
   any-back : (x : A) (xs : List A) → any (λ z. e z x) xs ≡ any (e x) xs
   any-back x [] = refl
   any-back x (z ∷ xs) = λ i. same-test (e z x) (e x z) (eqv .back z x) (eqv .back x z) i || any-back x xs i
 
   pub name-kept : (xs : List A) (m x : A) → In x xs → name e (xs ++ (m ∷ [])) x ≡ name e xs x
-  name-kept xs m x i = ap (index e x) (firsts-push e xs m) ∙ index-met x (firsts e xs) (cond (any (λ y. e y m) xs) [] (m ∷ [])) (in-firsts x xs i)
+  name-kept xs m x i = ap (index e x) (firsts-push e xs m) ∙ index-met x (firsts e xs) (cond (any (λ y. e y m) xs) [] (m ∷ [])) (in-firsts e eqv x xs i)
 
   pub name-next : (xs : List A) (x : A) → any (λ y. e y x) xs ≡ false → name e (xs ++ (x ∷ [])) x ≡ length (firsts e xs)
   name-next xs x h =
@@ -116,7 +99,7 @@ module _ {A : Type 0} (e : A → A → Bool) (eqv : Equivalence e) where
         let t : T (e (getD (take i xs) j x) x) = eqv .back x (getD (take i xs) j x) s in
         let there = in-range (take i xs) j x h in
         ( more xs out new i w x l k a is
-          (index-alike x (getD (take i xs) j x) s (firsts e (take i xs ++ (x ∷ [])))
+          (index-alike e eqv x (getD (take i xs) j x) s (firsts e (take i xs ++ (x ∷ [])))
            ∙ name-kept (take i xs) x (getD (take i xs) j x) there ∙ sym (getD-num (name e (take i xs)) out (take i xs) j d x h a) ∙ ap num (sym q)) p
         , b ∙ sym (next-same (take i xs) x (to-any (λ z. e z x) (take i xs) (getD (take i xs) j x) there t))
           ∙ ap (λ (z : A). length (firsts e (take i xs ++ (z ∷ [])))) is ∙ sym (ap (λ (ys : List A). length (firsts e ys)) (take-more xs i x l)) )

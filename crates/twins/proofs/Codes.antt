@@ -18,6 +18,7 @@ use Rattle.twins.proofs.Counts.{counted-recoded}
 use Rattle.twins.proofs.Judged.{made}
 use Rattle.twins.proofs.Lists.{in-left, in-right, of-map, of-kept}
 use Rattle.twins.proofs.Logic.{and-both, and-make, eq-eqb, eqb-false}
+use Rattle.twins.proofs.Names.{numbers}
 use Rattle.twins.proofs.Naming.{normal-again, names-small}
 use Rattle.twins.specs.Codes.{four, code, names-of, pair-of, Few, Small, Decodes, same-list, usable, recoded, coded, Codes-count}
 use Rattle.twins.specs.Fits.{Fits, Sized, arity}
@@ -166,8 +167,8 @@ module _ (g h : PageModel) where
           right = fh m im .exists;
           lefts = length-map A (name eqb (A ++ B)) ∙ length-map (l .sources) (value-of (p .lefts) (moved l (p .lefts) (fresh p))) ∙ fg l il .sources;
           rights = length-map B (name eqb (A ++ B)) ∙ length-map (m .sources) (value-of (p .rights) (moved m (p .rights) (fresh p))) ∙ fh m im .sources;
-          left-normal = ap (λ (q : Pair). q .lefts) (normal-again (l .next) (m .next) A B);
-          right-normal = ap (λ (q : Pair). q .rights) (normal-again (l .next) (m .next) A B)
+          left-normal = ap (λ (q : Pair). q .lefts) (normal-again ℕ eqb numbers (l .next) (m .next) A B);
+          right-normal = ap (λ (q : Pair). q .rights) (normal-again ℕ eqb numbers (l .next) (m .next) A B)
         }
       where
         A : List ℕ

@@ -1,40 +1,73 @@
--- A name stands for one value.
-use mathlib.Core.Path.{_≡_, refl, sym, _∙_, ap, subst}
-use mathlib.Core.Bool.{Bool, true, false, cond, not}
-use mathlib.Core.List.{List, [], _∷_, _++_, map}
-use mathlib.Core.Logic.{_⊎_, inl, inr, ⊎-elim}
-use Prim.Native.Nat.{ℕ, zero, suc, _≤_, _<_}
-use lib.Dec.{T, eqb, eqb→eq, eqb-refl}
+-- A name stands for values that mean the same, and for no others.
+use mathlib.Core.Path.{_≡_, refl, sym, _∙_, subst}
+use mathlib.Core.Bool.{Bool, true, false, cond, not, _||_}
+use mathlib.Core.List.{List, [], _∷_}
+use mathlib.Core.Logic.{inl, inr}
+use Prim.Native.Nat.{ℕ, suc, _<_}
 use native.Mathlib.Omega.{arith}
-use Rattle.programs.specs.Places.{In}
+use lib.Dec.{T, eqb, eqb→eq, eqb-refl}
+use lib.ListN.{length}
 use Rattle.std.specs.shelf.Lists.{kept-by}
-use Rattle.twins.proofs.Lists.{of-kept, in-kept}
+use Rattle.lists.specs.Every.{any}
+use Rattle.programs.specs.Places.{In}
 use Rattle.twins.specs.Naming.{firsts, index, name}
+use Rattle.twins.specs.Twins.{Equivalence}
+use Rattle.twins.proofs.Lists.{in-kept}
+use Rattle.twins.proofs.Logic.{eq-eqb, of-any, to-any, same-test}
 
--- each number is among the first occurrences
-pub in-firsts : (n : ℕ) (ns : List ℕ) → In n ns → In n (firsts eqb ns)
-in-firsts n [] i = i
-in-firsts n (m ∷ ns) (inl e) = inl e
-in-firsts n (m ∷ ns) (inr i) = go (in-firsts n ns i) (eqb m n) refl
-  where
-    go : In n (firsts eqb ns) → (b : Bool) → eqb m n ≡ b → In n (m ∷ kept-by (λ y. not (eqb m y)) (firsts eqb ns))
-    go j true e = inl (sym (eqb→eq m n (subst T (sym e) tt)))
-    go j false e = inr (in-kept (λ y. not (eqb m y)) n (firsts eqb ns) j (subst (λ b. T (not b)) (sym e) tt))
+module _ {A : Type 0} (e : A → A → Bool) (eqv : Equivalence e) where
+  -- values that mean the same have one index
+  pub index-alike : (x y : A) → T (e x y) → (zs : List A) → index e x zs ≡ index e y zs
+  index-alike x y t [] = refl
+  index-alike x y t (z ∷ zs) =
+      λ i. cond (same-test (e x z) (e y z) (λ s. eqv .through y x z (eqv .back x y t) s) (λ s. eqv .through x y z t s) i) 0 (suc (index-alike x y t zs i))
 
--- numbers with the same first place are equal
-pub index-one : (n m : ℕ) (ns : List ℕ) → In n ns → In m ns → index eqb n ns ≡ index eqb m ns → n ≡ m
-index-one n m [] i j e = absurd i
-index-one n m (k ∷ ns) i j e = go (λ p q. index-one n m ns p q) (eqb n k) (eqb m k) refl refl e
-  where
-    drop : (x : ℕ) → eqb x k ≡ false → In x (k ∷ ns) → In x ns
-    drop x f (inl p) = absurd (subst T (ap (λ y. eqb x y) p ∙ f) (eqb-refl x))
-    drop x f (inr q) = q
+  -- values that are met, with one index, mean the same
+  index-one : (x y : A) (zs : List A) → T (any (e x) zs) → T (any (e y) zs) → index e x zs ≡ index e y zs → T (e x y)
+  index-one x y [] s t q = absurd s
+  index-one x y (z ∷ zs) s t q = go (λ s t q. index-one x y zs s t q) (e x z) (e y z) refl refl s t q
+    where
+      go : (T (any (e x) zs) → T (any (e y) zs) → index e x zs ≡ index e y zs → T (e x y)) → (a b : Bool) → e x z ≡ a → e y z ≡ b → T (a || any (e x) zs) → T (b || any (e y) zs) →
+          cond a 0 (suc (index e x zs)) ≡ cond b 0 (suc (index e y zs)) → T (e x y)
+      go f true true p r s t q = eqv .through x z y (subst T (sym p) tt) (eqv .back y z (subst T (sym r) tt))
+      go f true false p r s t q = absurd (omega (arith, q))
+      go f false true p r s t q = absurd (omega (arith, q))
+      go f false false p r s t q = f s t (omega (arith, q))
 
-    go : (In n ns → In m ns → index eqb n ns ≡ index eqb m ns → n ≡ m) → (a b : Bool) → eqb n k ≡ a → eqb m k ≡ b → cond a 0 (suc (index eqb n ns)) ≡ cond b 0 (suc (index eqb m ns)) → n ≡ m
-    go f true true p q e = eqb→eq n k (subst T (sym p) tt) ∙ sym (eqb→eq m k (subst T (sym q) tt))
-    go f true false p q e = absurd (omega (arith, e))
-    go f false true p q e = absurd (omega (arith, e))
-    go f false false p q e = f (drop n p i) (drop m q j) (omega (arith, e))
+  pub index-below : (x : A) (zs : List A) → T (any (e x) zs) → index e x zs < length zs
+  index-below x [] t = absurd t
+  index-below x (z ∷ zs) t = go (λ t. index-below x zs t) (e x z) t
+    where
+      go : (T (any (e x) zs) → index e x zs < length zs) → (b : Bool) → T (b || any (e x) zs) → cond b 0 (suc (index e x zs)) < length (z ∷ zs)
+      go f true t = omega arith
+      go f false t = let h = f t in omega arith
+
+  -- each value has one that means the same among the first occurrences
+  pub in-firsts : (x : A) (xs : List A) → In x xs → T (any (e x) (firsts e xs))
+  in-firsts x [] i = absurd i
+  in-firsts x (y ∷ xs) (inl q) = to-any (e x) (firsts e (y ∷ xs)) y (inl refl) (subst (λ (z : A). T (e x z)) q (eqv .itself x))
+  in-firsts x (y ∷ xs) (inr i) =
+      let (z, j, t) = of-any (e x) (firsts e xs) (in-firsts x xs i) in
+      go z j t (e y z) refl
+    where
+      go : (z : A) → In z (firsts e xs) → T (e x z) → (b : Bool) → e y z ≡ b → T (any (e x) (firsts e (y ∷ xs)))
+      go z j t true q = to-any (e x) (firsts e (y ∷ xs)) y (inl refl) (eqv .through x z y t (eqv .back y z (subst T (sym q) tt)))
+      go z j t false q = to-any (e x) (firsts e (y ∷ xs)) z (inr (in-kept (λ w. not (e y w)) z (firsts e xs) j (subst (λ b. T (not b)) (sym q) tt))) t
+
+  -- the test agrees at the names
+  pub name-test : (xs : List A) (x y : A) → In x xs → In y xs → e x y ≡ eqb (name e xs x) (name e xs y)
+  name-test xs x y i j =
+      same-test (e x y) (eqb (name e xs x) (name e xs y)) (λ t. eq-eqb _ _ (index-alike x y t (firsts e xs)))
+      (λ t. index-one x y (firsts e xs) (in-firsts x xs i) (in-firsts y xs j) (eqb→eq _ _ t))
+
+-- numbers mean themselves
+pub numbers : Equivalence eqb
+numbers =
+    record {
+      itself = eqb-refl;
+      back = λ m n t. eq-eqb n m (sym (eqb→eq m n t));
+      through = λ k m n s t. eq-eqb k n (eqb→eq k m s ∙ eqb→eq m n t)
+    }
 
 pub name-one : (ns : List ℕ) (n m : ℕ) → In n ns → In m ns → name eqb ns n ≡ name eqb ns m → n ≡ m
-name-one ns n m i j e = index-one n m (firsts eqb ns) (in-firsts n ns i) (in-firsts m ns j) e
+name-one ns n m i j q = eqb→eq n m (subst T (sym (name-test eqb numbers ns n m i j)) (eq-eqb _ _ q))

@@ -14,11 +14,11 @@ use Rattle.programs.specs.Places.{In}
 use Rattle.std.specs.shelf.Lists.{kept-by}
 use Rattle.twins.proofs.Forces.{in-range}
 use Rattle.twins.proofs.Lists.{in-left, in-right, in-map, map-map, map-append, of-kept}
-use Rattle.twins.proofs.Logic.{eq-eqb, to-any, yes, eqb-false}
-use Rattle.twins.proofs.Names.{in-firsts, name-one}
+use Rattle.twins.proofs.Names.{index-below, in-firsts, name-test, numbers}
 use Rattle.twins.specs.Naming.{firsts, index, name}
 use Rattle.twins.specs.NamingLaws.{Pattern-names, Normal-again, Names-small}
 use Rattle.twins.specs.Pairs.{Pair, normal}
+use Rattle.twins.specs.Twins.{Equivalence}
 
 pub kept-map : {A B : Type 0} (f : A → B) (t : B → Bool) (xs : List A) → kept-by t (map f xs) ≡ map f (kept-by (λ x. t (f x)) xs)
 kept-map f t [] = refl
@@ -70,31 +70,28 @@ pattern-names A B ea eb zs h z i =
     name-map (λ (y : A × B). y .0) ea zs z ∙ name-agree (λ (y u : A × B). ea (y .0) (u .0)) (λ (y u : A × B). eb (y .1) (u .1)) zs z i h
     ∙ sym (name-map (λ (y : A × B). y .1) eb zs z)
 
--- the test agrees at the names
-pub name-test : (ns : List ℕ) (m n : ℕ) → In m ns → In n ns → eqb m n ≡ eqb (name eqb ns m) (name eqb ns n)
-name-test ns m n i j = go (eqb m n) refl
-  where
-    go : (b : Bool) → eqb m n ≡ b → b ≡ eqb (name eqb ns m) (name eqb ns n)
-    go true e = sym (yes _ (eq-eqb _ _ (ap (name eqb ns) (eqb→eq m n (subst T (sym e) tt)))))
-    go false e = sym (eqb-false _ _ (λ q. subst T e (eq-eqb m n (name-one ns m n i j q))))
+-- naming the names gives the names
+pub name-again : {A : Type 0} (e : A → A → Bool) → Equivalence e → (xs : List A) (x : A) → In x xs → name eqb (map (name e xs) xs) (name e xs x) ≡ name e xs x
+name-again e eqv xs x i =
+    name-map (name e xs) eqb xs x
+    ∙ sym (name-agree e (λ x y. eqb (name e xs x) (name e xs y)) xs x i (λ x y a b. name-test e eqv xs x y a b))
 
-pub name-again : (ns : List ℕ) (n : ℕ) → In n ns → name eqb (map (name eqb ns) ns) (name eqb ns n) ≡ name eqb ns n
-name-again ns n i =
-    name-map (name eqb ns) eqb ns n
-    ∙ sym (name-agree eqb (λ x y. eqb (name eqb ns x) (name eqb ns y)) ns n i (λ x y a b. name-test ns x y a b))
+pub names-again : {A : Type 0} (e : A → A → Bool) → Equivalence e → (xs : List A) →
+    map (name eqb (map (name e xs) xs)) (map (name e xs) xs) ≡ map (name e xs) xs
+names-again e eqv xs =
+    map-map (name e xs) (name eqb (map (name e xs) xs)) xs ∙ map-same-in _ _ xs (λ x i. name-again e eqv xs x i)
 
 pub normal-again : Normal-again
-normal-again i j xs ys =
-    λ k. record { left = i; right = j; lefts = again xs (λ n a. in-left n xs ys a) k; rights = again ys (λ n a. in-right n xs ys a) k }
+normal-again A e eqv i j xs ys = λ k. record { left = i; right = j; lefts = part xs (λ x a. in-left x xs ys a) k; rights = part ys (λ y a. in-right y xs ys a) k }
   where
-    f : ℕ → ℕ
-    f = name eqb (xs ++ ys)
+    f : A → ℕ
+    f = name e (xs ++ ys)
 
-    again : (zs : List ℕ) → ((n : ℕ) → In n zs → In n (xs ++ ys)) → map (name eqb (map f xs ++ map f ys)) (map f zs) ≡ map f zs
-    again zs sub =
+    part : (zs : List A) → ((z : A) → In z zs → In z (xs ++ ys)) → map (name eqb (map f xs ++ map f ys)) (map f zs) ≡ map f zs
+    part zs sub =
         ap (λ (l : List ℕ). map (name eqb l) (map f zs)) (sym (map-append f xs ys))
         ∙ map-map f (name eqb (map f (xs ++ ys))) zs
-        ∙ map-same-in _ f zs (λ n a. name-again (xs ++ ys) n (sub n a))
+        ∙ map-same-in _ f zs (λ z a. name-again e eqv (xs ++ ys) z (sub z a))
 
 pub length-kept : {A : Type 0} (t : A → Bool) (xs : List A) → length (kept-by t xs) ≤ length xs
 length-kept t [] = omega arith
@@ -109,20 +106,10 @@ length-firsts e [] = omega arith
 length-firsts e (x ∷ xs) =
     let a = length-kept (λ y. not (e x y)) (firsts e xs) in let b = length-firsts e xs in omega arith
 
-pub index-below : (n : ℕ) (ns : List ℕ) → In n ns → index eqb n ns < length ns
-index-below n [] i = absurd i
-index-below n (m ∷ ns) i = go (eqb n m) refl (index-below n ns) i
-  where
-    go : (b : Bool) → eqb n m ≡ b → (In n ns → index eqb n ns < length ns) → In n (m ∷ ns) → cond b 0 (suc (index eqb n ns)) < suc (length ns)
-    go true e f i = omega arith
-    go false e f (inl q) = absurd (subst T e (eq-eqb n m q))
-    go false e f (inr j) = let h = f j in omega arith
-
 pub names-small : Names-small
 names-small xs x i =
-    let a = index-below x (firsts eqb xs) (in-firsts x xs i) in let b = length-firsts eqb xs in omega arith
+    let a = index-below eqb numbers x (firsts eqb xs) (in-firsts eqb numbers x xs i) in let b = length-firsts eqb xs in omega arith
 
--- The step of a loop that names one value after another.
 pub kept-append : {A : Type 0} (t : A → Bool) (xs ys : List A) → kept-by t (xs ++ ys) ≡ kept-by t xs ++ kept-by t ys
 kept-append t [] ys = refl
 kept-append {A} t (x ∷ xs) ys = go (t x) (kept-append t xs ys)
