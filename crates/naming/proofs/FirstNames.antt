@@ -20,6 +20,17 @@ use Rattle.twins.proofs.Logic.{of-any, to-any, yes, same-test}
 use Rattle.twins.proofs.Forces.{in-range}
 use Rattle.twins.proofs.Names.{index-alike, in-firsts}
 use Rattle.twins.proofs.Naming.{firsts-push, of-firsts, length-firsts}
+use Rattle.std.specs.Options.{Cases}
+use Rattle.std.specs.declared.option.Option.{Option}
+use Rattle.std.specs.declared.option.Option.the-variants.{Some, None}
+use Rattle.values.specs.Places.{first-place}
+use Rattle.values.proofs.Searched.{place-good, place-none}
+use Rattle.naming.specs.Names.{names, next-name, next-after}
+
+pub getD-map : {A : Type 0} (f : A → ℕ) (xs : List A) (j : ℕ) (d : A) → j < length xs → getD (map f xs) j 0 ≡ f (getD xs j d)
+getD-map f [] j d h = absurd (omega arith)
+getD-map f (x ∷ xs) zero d h = refl
+getD-map f (x ∷ xs) (suc j) d h = getD-map f xs j d (omega arith)
 
 module _ {A : Type 0} (e : A → A → Bool) (eqv : Equivalence e) where
   index-met : (x : A) (ms ns : List A) → T (any (λ y. e x y) ms) → index e x (ms ++ ns) ≡ index e x ms
@@ -68,52 +79,46 @@ module _ {A : Type 0} (e : A → A → Bool) (eqv : Equivalence e) where
   next-more : (xs : List A) (x : A) → any (λ z. e z x) xs ≡ false → length (firsts e (xs ++ (x ∷ []))) ≡ length (firsts e xs) + 1
   next-more xs x h = ap length (firsts-push e xs x ∙ ap (λ (b : Bool). firsts e xs ++ cond b [] (x ∷ [])) h) ∙ length-append (firsts e xs) (x ∷ [])
 
-  -- the loop, over the numbers of the names
-  module _ {N : Type 0} (num : N → ℕ) where
-    abbrev pub Named : List A → List N → ℕ → ℕ → Type 0
-    Named xs out i next = (map num out ≡ map (name e (take i xs)) (take i xs)) × (next ≡ length (firsts e (take i xs)))
+  -- the values so far have these names, and this is the next
+  abbrev pub Named : List A → List ℕ → ℕ → Type 0
+  Named xs ns next = (ns ≡ names e xs) × (next ≡ length (firsts e xs))
 
-    pub named-length : (xs : List A) (out : List N) (i : ℕ) → i ≤ length xs → map num out ≡ map (name e (take i xs)) (take i xs) → length out ≡ i
-    named-length xs out i l q = sym (length-map out num) ∙ ap length q ∙ length-map (take i xs) (name e (take i xs)) ∙ length-take-le i xs l
+  pub named-length : (xs : List A) (ns : List ℕ) (next : ℕ) → Named xs ns next → length ns ≡ length xs
+  named-length xs ns next (a, b) = ap length a ∙ length-map xs (name e xs)
 
-    more : (xs : List A) (out new : List N) (i : ℕ) (w : N) (x : A) → i < length xs → i < 8 → map num out ≡ map (name e (take i xs)) (take i xs) → x ≡ getD xs i x →
-        name e (take i xs ++ (x ∷ [])) x ≡ num w → new ≡ cond (ltb (length out) 8) (out ++ (w ∷ [])) out → map num new ≡ map (name e (take (i + 1) xs)) (take (i + 1) xs)
-    more xs out new i w x l k a is q p =
-        let m = named-length xs out i (omega arith) a in
-        ap (map num) (p ∙ cond-true _ _ _ (lt-ltb (length out) 8 (omega arith))) ∙ map-append num out (w ∷ [])
-        ∙ (λ j. a j ++ (sym q j ∷ [])) ∙ sym (names-push (take i xs) x)
-        ∙ ap (λ (y : A). map (name e (take i xs ++ (y ∷ []))) (take i xs ++ (y ∷ []))) is
-        ∙ sym (ap (λ (ys : List A). map (name e ys) ys) (take-more xs i x l))
+  pub next-bound : (xs : List A) (ns : List ℕ) (next : ℕ) → Named xs ns next → next ≤ length xs
+  next-bound xs ns next (a, b) = let l = length-firsts e xs in omega (arith, l, b)
 
-    getD-num : (f : A → ℕ) (out : List N) (ys : List A) (j : ℕ) (d : N) (y : A) → j < length ys → map num out ≡ map f ys → num (getD out j d) ≡ f (getD ys j y)
-    getD-num f [] [] j d y h q = absurd (omega arith)
-    getD-num f [] (z ∷ ys) j d y h q = let w : _≡_ {A = ℕ} 0 1 = cc in absurd (omega arith)
-    getD-num f (n ∷ out) [] j d y h q = absurd (omega arith)
-    getD-num f (n ∷ out) (z ∷ ys) zero d y h q = cc
-    getD-num f (n ∷ out) (z ∷ ys) (suc j) d y h q = getD-num f out ys j d y (omega arith) cc
+  met-name : (xs : List A) (ns : List ℕ) (x : A) (next : ℕ) (o : Option ℕ) → Named xs ns next → o ≡ first-place (e x) xs →
+      (next-name ns next o ≡ name e (xs ++ (x ∷ [])) x) × (next-after next o ≡ length (firsts e (xs ++ (x ∷ []))))
+  met-name xs ns x next None (a, b) q =
+      let h = any-back x xs ∙ place-none (e x) xs q in
+      (b ∙ sym (name-next xs x h), ap suc b ∙ omega arith ∙ sym (next-more xs x h))
+  met-name xs ns x next (Some j) (a, b) q =
+      let (k, s) = place-good (e x) xs j x q in
+      let there = in-range xs j x k in
+      let t : T (e x (getD xs j x)) = subst T (sym s) tt in
+      ( ap (λ (l : List ℕ). getD l j 0) a ∙ getD-map (name e xs) xs j x k ∙ sym (name-kept xs x (getD xs j x) there)
+        ∙ sym (index-alike e eqv x (getD xs j x) t (firsts e (xs ++ (x ∷ []))))
+      , b ∙ sym (next-same xs x (to-any (λ z. e z x) xs (getD xs j x) there (eqv .back x (getD xs j x) t))) )
 
-    pub named-met : (xs : List A) (out new : List N) (i j next : ℕ) (w d : N) (x : A) → i < length xs → i < 8 → Named xs out i next → x ≡ getD xs i x →
-        j < length (take i xs) → e x (getD (take i xs) j x) ≡ true → w ≡ getD out j d → new ≡ cond (ltb (length out) 8) (out ++ (w ∷ [])) out → Named xs new (i + 1) next
-    named-met xs out new i j next w d x l k (a, b) is h met q p =
-        let s : T (e x (getD (take i xs) j x)) = subst T (sym met) tt in
-        let t : T (e (getD (take i xs) j x) x) = eqv .back x (getD (take i xs) j x) s in
-        let there = in-range (take i xs) j x h in
-        ( more xs out new i w x l k a is
-          (index-alike e eqv x (getD (take i xs) j x) s (firsts e (take i xs ++ (x ∷ [])))
-           ∙ name-kept (take i xs) x (getD (take i xs) j x) there ∙ sym (getD-num (name e (take i xs)) out (take i xs) j d x h a) ∙ ap num (sym q)) p
-        , b ∙ sym (next-same (take i xs) x (to-any (λ z. e z x) (take i xs) (getD (take i xs) j x) there t))
-          ∙ ap (λ (z : A). length (firsts e (take i xs ++ (z ∷ [])))) is ∙ sym (ap (λ (ys : List A). length (firsts e ys)) (take-more xs i x l)) )
+  -- one value more
+  pub named-more : (xs : List A) (ns new : List ℕ) (next after : ℕ) (x : A) (o : Option ℕ) → Named xs ns next → o ≡ first-place (e x) xs →
+      new ≡ ns ++ (next-name ns next o ∷ []) → after ≡ next-after next o → Named (xs ++ (x ∷ [])) new after
+  named-more xs ns new next after x o n q p r =
+      let (u, v) = met-name xs ns x next o n q in
+      (p ∙ (λ i. n .0 i ++ (u i ∷ [])) ∙ sym (names-push xs x), r ∙ v)
 
-    pub named-new : (xs : List A) (out new : List N) (i next : ℕ) (w : N) (x : A) → i < length xs → i < 8 → Named xs out i next → x ≡ getD xs i x →
-        any (e x) (take i xs) ≡ false → num w ≡ next → new ≡ cond (ltb (length out) 8) (out ++ (w ∷ [])) out → Named xs new (i + 1) (next + 1)
-    named-new xs out new i next w x l k (a, b) is none q p =
-        let h = any-back x (take i xs) ∙ none in
-        ( more xs out new i w x l k a is (name-next (take i xs) x h ∙ sym b ∙ sym q) p
-        , ap (λ (n : ℕ). n + 1) b ∙ sym (next-more (take i xs) x h)
-          ∙ ap (λ (z : A). length (firsts e (take i xs ++ (z ∷ [])))) is ∙ sym (ap (λ (ys : List A). length (firsts e ys)) (take-more xs i x l)) )
-
-    pub named-all : (xs : List A) (out : List N) (i next : ℕ) → length xs ≤ i → Named xs out i next → map num out ≡ map (name e xs) xs
-    named-all xs out i next l (a, b) = a ∙ ap (λ (ys : List A). map (name e ys) ys) (take-all i xs l)
-
-  pub next-bound : (xs : List A) (i : ℕ) → i ≤ length xs → length (firsts e (take i xs)) ≤ i
-  next-bound xs i l = let a = length-firsts e (take i xs) in let b = length-take-le i xs l in omega arith
+  -- the names can take one more
+  pub ready : {N : Type 0} (num : N → ℕ) (out : List N) (xs : List A) (x : A) (next : ℕ) (o : Option ℕ) → Named xs (map num out) next → length xs < 8 →
+      o ≡ first-place (e x) xs → (length out < 8) × Cases o (next < 255) (λ j. j < length out)
+  ready num out xs x next None n h q =
+      let a = named-length xs (map num out) next n in
+      let b = length-map out num in
+      let c = next-bound xs (map num out) next n in
+      (omega (arith, a, b), omega (arith, c, h))
+  ready num out xs x next (Some j) n h q =
+      let a = named-length xs (map num out) next n in
+      let b = length-map out num in
+      let (k, t) = place-good (e x) xs j x q in
+      (omega (arith, a, b), omega (arith, a, b, k))

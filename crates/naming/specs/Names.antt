@@ -1,9 +1,9 @@
--- The names of a list of values.
-use mathlib.Core.Bool.{Bool, cond}
-use mathlib.Core.List.{List, map}
-use Prim.Native.Nat.{ℕ}
+-- The names of the values of two sides.
+use mathlib.Core.Bool.{Bool, cond, _||_}
+use mathlib.Core.List.{List, map, _++_}
+use Prim.Native.Nat.{ℕ, suc}
 use lib.Dec.{ltb}
-use lib.ListN.{length}
+use lib.ListN.{length, getD}
 use Rattle.std.specs.declared.option.Option.{Option}
 use Rattle.std.specs.declared.option.Option.the-variants.{Some, None}
 use Rattle.pages.specs.declared.Name.{Name}
@@ -16,6 +16,15 @@ number n = n .0
 abbrev pub names : {A : Type 0} → (A → A → Bool) → List A → List ℕ
 names same xs = map (name same xs) xs
 
--- at most eight values are named
-abbrev pub named : {A : Type 0} → (A → A → Bool) → List A → Option (List ℕ)
-named same xs = cond (ltb 8 (length xs)) None (Some (names same xs))
+-- at most four values a side are named, the left ones first
+abbrev pub named : {A : Type 0} → (A → A → Bool) → List A → List A → Option (List ℕ)
+named same xs ys = cond (ltb 4 (length xs) || ltb 4 (length ys)) None (Some (names same (xs ++ ys)))
+
+-- the name of one value more, by the place where it was met
+abbrev pub next-name : List ℕ → ℕ → Option ℕ → ℕ
+next-name ns next None = next
+next-name ns next (Some j) = getD ns j 0
+
+abbrev pub next-after : ℕ → Option ℕ → ℕ
+next-after next None = suc next
+next-after next (Some j) = next

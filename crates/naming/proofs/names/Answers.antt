@@ -1,54 +1,71 @@
-use mathlib.Core.Path.{_≡_, refl, ap, _∙_, sym}
-use mathlib.Core.List.{List, [], map}
-use Prim.Native.Nat.{ℕ, _≤_, _<_}
+use mathlib.Core.Path.{_≡_, sym, ap, subst, _∙_}
+use mathlib.Core.Bool.{_||_}
+use mathlib.Core.List.{List, [], _∷_, _++_, map, append-nil, append-assoc}
+use Prim.Native.Nat.{ℕ, _+_, _≤_, _<_}
 use native.Mathlib.Omega.{arith}
-use lib.ListN.{length, take, getD}
-use lib.Seq.{length-take-le}
-use Rattle.std.specs.declared.option.Option.the-variants.{Some, None}
-use Rattle.std.proofs.shelf.Tests.{cond-true, cond-false, le-ltb}
+use lib.ListN.{length, take, getD, length-append}
+use lib.Seq.{length-take-le, take-all}
+use Rattle.std.specs.declared.option.Option.the-variants.{Some}
+use Rattle.std.proofs.shelf.Lists.{take-more}
+use Rattle.std.proofs.shelf.Tests.{cond-false, le-ltb}
 use Rattle.lists.specs.Held.{held}
-use Rattle.pages.specs.declared.Name.{Name}
-use Rattle.values.proofs.Searched.{place-good, place-none}
 use Rattle.twins.proofs.Equivalences.{equivalence}
-use Rattle.naming.specs.Names.{number}
-use Rattle.naming.proofs.FirstNames.{Named, named-length, named-met, named-new, named-all, next-bound}
+use Rattle.naming.specs.Names.{number, names}
+use Rattle.naming.proofs.FirstNames.{Named, named-more, ready}
+use Rattle.naming.proofs.names.Given as given
 use Rattle.naming.proofs.names.Needs as need
-use Rattle.naming.proofs.names.Needs.{in-Some, in-None}
 
-pub index-as-slice-j : need.index-as-slice-j
-index-as-slice-j g c =
-    let xs = c .args .values .now in
-    let i = c .loop-i .i in
-    let a = place-good (g .K·Kind .same (c .index-values-i .result)) (take i xs) (c .in-Some .j) (c .index-values-i .result) (c .in-Some .ensures tt) .0 in
-    let b : length (take i xs) ≡ i = length-take-le i xs (omega arith) in
-    let d : length (held (c .loop-i .out)) ≡ i =
-          named-length (g .K·Kind .same) (equivalence (g .K·Kind .means) (g .K·Kind .same) (g .K·Kind·met .exact)) number xs (held (c .loop-i .out)) i (omega arith) (c .loop-i .inv .0) in
-    let e : length (c .as-slice .result .now) ≡ length (held (c .loop-i .out)) = ap length (c .as-slice .ensures) in
-    omega (arith, a, b, d, e)
-
-pub add-next : need.add-next
-add-next g c =
-    let a = next-bound (g .K·Kind .same) (equivalence (g .K·Kind .means) (g .K·Kind .same) (g .K·Kind·met .exact)) (c .args .values .now) (c .loop-i .i) (omega arith) in
-    omega (arith, a, c .loop-i .inv .1)
+pub add-name-next-requires : need.add-name-next-requires
+add-name-next-requires g c κs =
+    let xs = c .args .lefts .now in
+    let l = length-take-le (c .loop-i .i) xs (omega arith) in
+    ready (g .K·Kind .same) (equivalence (g .K·Kind .means) (g .K·Kind .same) (g .K·Kind·met .exact)) number (held (c .loop-i .out)) (take (c .loop-i .i) xs)
+    (c .index-lefts-i .result) (c .loop-i .next) (c .position-place .result) (c .loop-i .inv) (omega (arith, l)) (c .position-place .ensures)
 
 pub loop-i-again : need.loop-i-again
 loop-i-again g c =
-    let xs = c .args .values .now in
+    let same = g .K·Kind .same in
+    let eqv = equivalence (g .K·Kind .means) (g .K·Kind .same) (g .K·Kind·met .exact) in
+    let xs = c .args .lefts .now in
     let i = c .loop-i .i in
-    let x = c .index-values-i .result in
-    elim (c .match-position .came) [
-      in-Some w ↦
-        let found = place-good (g .K·Kind .same x) (take i xs) (w .in-Some .j) x (w .in-Some .ensures tt) in
-        rw (w .next-is)
-        (named-met (g .K·Kind .same) (equivalence (g .K·Kind .means) (g .K·Kind .same) (g .K·Kind·met .exact)) number xs (held (c .loop-i .out)) _ i (w .in-Some .j) (c .loop-i .next) _ _ x (omega arith) (omega arith) (c .loop-i .inv) (c .index-values-i .is)
-        (found .0) (found .1) (ap (λ (l : List Name). getD l (w .in-Some .j) _) (w .as-slice .ensures)) (ap held (w .out-is) ∙ w .push .ensures .held))
-    | in-None w ↦
-        rw (w .next-is)
-        (named-new (g .K·Kind .same) (equivalence (g .K·Kind .means) (g .K·Kind .same) (g .K·Kind·met .exact)) number xs (held (c .loop-i .out)) _ i (c .loop-i .next) _ x (omega arith) (omega arith) (c .loop-i .inv) (c .index-values-i .is)
-        (place-none (g .K·Kind .same x) (take i xs) (w .in-None .ensures tt)) refl (ap held (w .out-is) ∙ w .push-in-None .ensures .held)) ]
+    let x = c .index-lefts-i .result in
+    subst (λ l. Named same eqv l (map number (held (c .add-name-next .last .out))) (c .add-name-next .result))
+    (ap (λ y. take i xs ++ (y ∷ [])) (c .index-lefts-i .is) ∙ sym (take-more xs i x (c .loop-i-test .taken)))
+    (named-more same eqv (take i xs) (map number (held (c .loop-i .out))) (map number (held (c .add-name-next .last .out))) (c .loop-i .next) (c .add-name-next .result) x
+    (c .position-place .result) (c .loop-i .inv) (c .position-place .ensures) (c .add-name-next .ensures .named) (c .add-name-next .ensures .next))
+
+pub loop-j-holds : need.loop-j-holds
+loop-j-holds g c =
+    let xs = c .args .lefts .now in
+    subst (λ l. Named (g .K·Kind .same) (equivalence (g .K·Kind .means) (g .K·Kind .same) (g .K·Kind·met .exact)) l (map number (held (c .loop-i .out))) (c .loop-i .next))
+    (take-all (c .loop-i .i) xs (c .loop-i-test .left) ∙ sym (append-nil xs)) (c .loop-i .inv)
+
+pub add-name-next-requires-in-loop-j : need.add-name-next-requires-in-loop-j
+add-name-next-requires-in-loop-j g c κs =
+    let xs = c .args .lefts .now in
+    let ys = c .args .rights .now in
+    let j = c .loop-j .j in
+    let l = length-append xs (take j ys) in
+    let m = length-take-le j ys (omega arith) in
+    ready (g .K·Kind .same) (equivalence (g .K·Kind .means) (g .K·Kind .same) (g .K·Kind·met .exact)) number (held (c .loop-j .out)) (xs ++ take j ys)
+    (c .index-rights-j .result) (c .loop-j .next) (c .met-place .result) (c .loop-j .inv) (omega (arith, l, m)) (c .met-place .ensures)
+
+pub loop-j-again : need.loop-j-again
+loop-j-again g c =
+    let same = g .K·Kind .same in
+    let eqv = equivalence (g .K·Kind .means) (g .K·Kind .same) (g .K·Kind·met .exact) in
+    let xs = c .args .lefts .now in
+    let ys = c .args .rights .now in
+    let j = c .loop-j .j in
+    let y = c .index-rights-j .result in
+    subst (λ l. Named same eqv l (map number (held (c .add-name-next-in-loop-j .last .out))) (c .add-name-next-in-loop-j .result))
+    (append-assoc xs (take j ys) (y ∷ []) ∙ ap (λ l. xs ++ l) (ap (λ z. take j ys ++ (z ∷ [])) (c .index-rights-j .is) ∙ sym (take-more ys j y (c .loop-j-test .taken))))
+    (named-more same eqv (xs ++ take j ys) (map number (held (c .loop-j .out))) (map number (held (c .add-name-next-in-loop-j .last .out))) (c .loop-j .next) (c .add-name-next-in-loop-j .result) y
+    (c .met-place .result) (c .loop-j .inv) (c .met-place .ensures) (c .add-name-next-in-loop-j .ensures .named) (c .add-name-next-in-loop-j .ensures .next))
 
 pub returns : need.returns
 returns g c =
-    ap Some (named-all (g .K·Kind .same) (equivalence (g .K·Kind .means) (g .K·Kind .same) (g .K·Kind·met .exact)) number
-    (c .args .values .now) (held (c .loop-i .out)) (c .loop-i .i) (c .loop-i .next) (omega arith) (c .loop-i .inv))
-    ∙ sym (cond-false _ _ _ (le-ltb 8 (length (c .args .values .now)) (omega arith)))
+    let xs = c .args .lefts .now in
+    let ys = c .args .rights .now in
+    ap Some (c .loop-j .inv .0 ∙ ap (λ l. names (g .K·Kind .same) (xs ++ l)) (take-all (c .loop-j .j) ys (c .loop-j-test .left)))
+    ∙ sym (cond-false _ _ _ (λ i. le-ltb 4 (length xs) (omega arith) i || le-ltb 4 (length ys) (omega arith) i))
