@@ -42,7 +42,7 @@ abbrev Nothing : {A : Type 0} → Option A → Type 0
 Nothing None = Unit {0}
 Nothing (Some x) = ⊥
 
-none-some : {A : Type 0} {x : A} → _≡_ {A = Option A} None (Some x) → ⊥
+pub none-some : {A : Type 0} {x : A} → _≡_ {A = Option A} None (Some x) → ⊥
 none-some {A} e = subst Nothing e tt
 
 module _ {A : Type 0} (p : A → Bool) where
