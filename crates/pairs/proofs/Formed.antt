@@ -19,7 +19,7 @@ use Rattle.twins.specs.Pairs.{Pair, normal}
 use Rattle.twins.specs.Twins.{Equivalence}
 use Rattle.twins.proofs.Lists.{map-append}
 use Rattle.twins.proofs.Naming.{names-again}
-use Rattle.pairs.specs.Order.{In-order, pair-fits}
+use Rattle.pairs.specs.Order.{In-order, pair-fits, pair-of-values}
 
 module _ {A : Type 0} (same : A → A → Bool) (i j : ℕ) (xs ys : List A) (ns : List ℕ) (e : ns ≡ names same (xs ++ ys)) where
   abbrev f : A → ℕ
@@ -58,3 +58,10 @@ module _ {A : Type 0} (same : A → A → Bool) (xs ys : List A) where
   pub fits : (i j : ℕ) → i < 32 → j < 32 → length xs ≤ 4 → length ys ≤ 4 → pair-fits i j (length xs) (length ys) ≡ true
   fits i j a b c d =
       λ k. lt-ltb i 32 a k && (lt-ltb j 32 b k && (lt-ltb (length xs) 5 (omega arith) k && lt-ltb (length ys) 5 (omega arith) k))
+
+  pub of-values : (i j : ℕ) (m : Pair) → Some m ≡ pair-of-values same i j xs ys → m ≡ normal same i j xs ys
+  of-values i j m e = go (pair-fits i j (length xs) (length ys)) e
+    where
+      go : (b : Bool) → Some m ≡ cond b (Some (normal same i j xs ys)) None → m ≡ normal same i j xs ys
+      go true e = ap (λ (o : Option Pair). valueOr o m) e
+      go false e = absurd (none-some (sym e))

@@ -1,1 +1,3 @@
 pub mod Formed
+pub mod Small
+pub mod Standing
