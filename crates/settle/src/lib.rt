@@ -101,7 +101,7 @@ pub fn settle_against<M: Match, S: CodeSet>(game: &M, codes: &mut [u64], counts:
 pub fn settle_drawn(game: &Drawn, codes: &mut [u64], counts: &mut [u16]) -> Result<Settled, SettleFault>
     ensures { λ r. ⌜ Outcome (drawn (now (game .entry) .start) (now (now (game .entry) .rows)) (now (now (game .entry) .replies))) (now (codes .entry)) (now (counts .entry)) (now (codes .exit)) (now (counts .exit)) r ⌝ }
 {
-    settle(game, codes, counts)
+    settle::<Drawn>(game, codes, counts)
 }
 
 // The same under left-only.

@@ -55,6 +55,8 @@ fn highest_first(number: u64, width: usize, out: &mut [u8])
     }
 }
 
+const READING_WIDTH: usize = 4;
+
 // Readings are told in 4 bytes.
 pub impl Told for Reading as ReadingTold {
     ghost width = { 4 };
@@ -62,13 +64,15 @@ pub impl Told for Reading as ReadingTold {
     ghost number = { reading-means };
 
     fn width() -> usize {
-        4
+        READING_WIDTH
     }
 
     fn number(&self) -> u64 {
         self.0 as u64
     }
 }
+
+const TIME_WIDTH: usize = 4;
 
 // Times are told in 4 bytes, as seconds of the day.
 pub impl Told for TimeOfDay as TimeOfDayTold {
@@ -77,7 +81,7 @@ pub impl Told for TimeOfDay as TimeOfDayTold {
     ghost number = { time-means };
 
     fn width() -> usize {
-        4
+        TIME_WIDTH
     }
 
     fn number(&self) -> u64 {
