@@ -7,6 +7,8 @@ mod written;
 use counted::Counted;
 use counted::CountedDisplay;
 use dump::reading::read;
+use programs::text::AsProgram;
+use programs::text::AsProgramDisplay;
 use refusal::Refusal;
 use refusal::RefusalDisplay;
 use sentences::InWords;
@@ -45,6 +47,8 @@ fn main(rt: LibcRuntime) -> io::Result<()> {
         Ok(page) => {
             println!(rt, "The text is the dump of a page.")?;
             rt.print(InWords(&page))?;
+            println!(rt, "As a program, where a value taken is y:")?;
+            rt.print(AsProgram(&page))?;
             written::print_dump(&rt, &page, text)
         }
         Err(fault) => rt.print(Refusal { fault, text }),
