@@ -153,7 +153,7 @@ static EVENS: [Row; 3] = [
 
 static EVENS_REPLIES: [u32; 2] = [3, 4];
 
-pub fn holding(rt: &impl Print) -> io::Result<()> {
+pub(crate) fn holding(rt: &impl Print) -> io::Result<()> {
     let game = Drawn {
         start: 1,
         rows: &CIRCLE,
@@ -168,7 +168,7 @@ pub fn holding(rt: &impl Print) -> io::Result<()> {
     )
 }
 
-pub fn failing(rt: &impl Print) -> io::Result<()> {
+pub(crate) fn failing(rt: &impl Print) -> io::Result<()> {
     let game = Drawn {
         start: 5,
         rows: &DEAD_END,
@@ -195,7 +195,7 @@ pub fn failing(rt: &impl Print) -> io::Result<()> {
     )
 }
 
-pub fn short_lists(rt: &impl Print) -> io::Result<()> {
+pub(crate) fn short_lists(rt: &impl Print) -> io::Result<()> {
     let game = Drawn {
         start: 10,
         rows: &RING,
@@ -217,7 +217,7 @@ pub fn short_lists(rt: &impl Print) -> io::Result<()> {
     )
 }
 
-pub fn layers(rt: &impl Print) -> io::Result<()> {
+pub(crate) fn layers(rt: &impl Print) -> io::Result<()> {
     let game = Drawn {
         start: 5,
         rows: &DEAD_END,
@@ -245,7 +245,7 @@ pub fn layers(rt: &impl Print) -> io::Result<()> {
     say(rt, "Even codes", &game, Way::AgainstEvens, Lists::Long)
 }
 
-pub fn refused(rt: &impl Print) -> io::Result<()> {
+pub(crate) fn refused(rt: &impl Print) -> io::Result<()> {
     let game = Drawn {
         start: 1,
         rows: &CIRCLE,

@@ -36,7 +36,7 @@ pub enum Lists {
 
 impl Lists {
     // How many codes and how many counts there is room for.
-    pub fn lengths(self) -> (usize, usize)
+    pub(crate) fn lengths(self) -> (usize, usize)
         ensures { λ r. ⌜ r .0 ≤ 6 ⌝ ∗ ⌜ r .1 ≤ 6 ⌝ }
     {
         match self {
@@ -82,7 +82,7 @@ fn settle_left_twice(
     )
 }
 
-pub fn settle_by(
+pub(crate) fn settle_by(
     way: Way,
     game: &Drawn,
     codes: &mut [u64],

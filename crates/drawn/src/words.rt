@@ -11,7 +11,7 @@ use settle::Verdict;
 use std::io;
 
 // Settles the match and says all of it.
-pub fn say(rt: &impl Print, title: &str, game: &Drawn, way: Way, lists: Lists) -> io::Result<()> {
+pub(crate) fn say(rt: &impl Print, title: &str, game: &Drawn, way: Way, lists: Lists) -> io::Result<()> {
     let mut codes = [0u64; MOST];
     let mut counts = [0u16; MOST];
     let (room, beside) = lists.lengths();

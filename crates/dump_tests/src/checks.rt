@@ -12,7 +12,7 @@ fn layer_digit(layer: Layer) -> u8 {
 }
 
 // The text is refused with this number at this text line. The number's first digit says the layer.
-pub fn refused(text: &[u8], number: u8, line: usize) -> Result<(), Fail> {
+pub(crate) fn refused(text: &[u8], number: u8, line: usize) -> Result<(), Fail> {
     match read(text) {
         Ok(_) => Err(Fail::new("accepted")),
         Err(fault) => {
@@ -23,14 +23,14 @@ pub fn refused(text: &[u8], number: u8, line: usize) -> Result<(), Fail> {
 }
 
 // A row is a text, the number of its refusal and the text line.
-pub fn each_refused(rows: &[(&str, u8, usize)]) -> Result<(), Fail> {
+pub(crate) fn each_refused(rows: &[(&str, u8, usize)]) -> Result<(), Fail> {
     for (text, number, line) in rows {
         refused(text.as_bytes(), *number, *line).note(text)?;
     }
     Ok(())
 }
 
-pub fn each_accepted(texts: &[&str]) -> Result<(), Fail> {
+pub(crate) fn each_accepted(texts: &[&str]) -> Result<(), Fail> {
     for text in texts {
         check(read(text.as_bytes()).is_ok()).note(text)?;
     }

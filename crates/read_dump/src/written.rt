@@ -3,7 +3,7 @@ use dump::writing::write;
 use pages::page::Page;
 use std::io;
 
-pub fn print_dump(rt: &impl Print, page: &Page, text: &[u8]) -> io::Result<()> {
+pub(crate) fn print_dump(rt: &impl Print, page: &Page, text: &[u8]) -> io::Result<()> {
     let mut out = [0; 4096];
     let Ok(len) = write(page, &mut out) else {
         return println!(rt, "Written back, the dump is longer than 4096 bytes.");

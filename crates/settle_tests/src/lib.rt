@@ -11,7 +11,7 @@ mod valued;
 use games::drawn::Row;
 
 // A row in one line of a table.
-pub fn row(code: u32, side: u8, first: u32, number: u32) -> Row
+pub(crate) fn row(code: u32, side: u8, first: u32, number: u32) -> Row
     ensures { λ r. ⌜ r .code ≡ code ⌝ ∗ ⌜ r .side ≡ side ⌝ ∗ ⌜ r .first ≡ first ⌝ ∗ ⌜ r .number ≡ number ⌝ }
 {
     Row {
