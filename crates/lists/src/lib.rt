@@ -1,5 +1,9 @@
 // Lists without a heap, and one question put to each item of a list.
-ghost use Rattle.std.specs.Prelude.{◌≡◌, ◌≤◌, length};
+#![tactic(auto)]
+
+ghost use Rattle.std.specs.Prelude.{◌≡◌, ◌≤◌, ⊤, length};
+
+use std::alloc::AllocError;
 
 pub mod ops;
 pub mod predicate;
@@ -10,6 +14,16 @@ pub struct BoundedVec<T, const N: usize> {
     len: usize,
     ghost whole: { length items ≡ N },
     ghost within: { len ≤ N },
+}
+
+impl<T: Copy, const N: usize> Clone for BoundedVec<T, N> {
+    ghost is_clone = { λ x y. y ≡ x };
+
+    ghost is_infallible = { λ _. ⊤ };
+
+    fn clone(&self) -> Result<Self, AllocError> {
+        Ok(*self)
+    }
 }
 
 impl<T: Copy, const N: usize> Copy for BoundedVec<T, N> {}

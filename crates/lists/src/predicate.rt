@@ -1,6 +1,6 @@
 // A test of one item, and which items of a slice pass it.
 ghost use Rattle.std.specs.Prelude.{◌≡◌, ◌≤◌, Bool, length, filter};
-ghost use Rattle.std.specs.List.{slice_get as nth-item};
+ghost use Rattle.std.specs.List.{slice_get as nth_item};
 ghost use Rattle.lists.specs.Every.{every};
 
 pub trait Predicate<T> {
@@ -37,7 +37,7 @@ pub fn count<T: Copy, P: Predicate<T>>(predicate: &P, items: &[T]) -> usize
 
 // The n-th item that passes, from 0.
 pub fn nth<T: Copy, P: Predicate<T>>(predicate: &P, items: &[T], n: usize) -> Option<T>
-    ensures { result ≡ nth-item (filter (P.Predicate.passes predicate.now) items.now) n }
+    ensures { result ≡ nth_item (filter (P.Predicate.passes predicate.now) items.now) n }
 {
     let mut before = n;
     for x in items {
