@@ -1,7 +1,7 @@
 -- Bytes put into the front of a list, from the last to the first.
-use Rattle.std.specs.Prelude.{◌≡◌, ℕ, zero, suc, ◌+◌, ◌-◌, ◌*◌, ◌/◌, ◌%◌, ◌^◌, ◌<◌, ◌≤◌, List, [], ◌∷◌, ◌++◌, length, drop, Decides, ◌==◌, slice_set, refl}
+use Rattle.std.specs.Prelude.{◌≡◌, ℕ, zero, suc, ◌+◌, ◌-◌, ◌*◌, ◌/◌, ◌%◌, ◌<◌, ◌≤◌, List, [], ◌∷◌, ◌++◌, length, drop, Decides, ◌==◌, slice_set, refl}
 use Rattle.std.proofs.Common.{sym, ap, ◌∙◌, sub-one, arith}
-use Rattle.std.proofs.lemmas.List.{append_assoc, length-set, length-append, drop-set, same_from_push}
+use Rattle.std.proofs.lemmas.List.{append_assoc, length-set, drop-set, same_from_push}
 use Rattle.std.proofs.lemmas.Bool.{eqb-true, eq-eqb}
 use Rattle.values.specs.Bytes.{bytes}
 

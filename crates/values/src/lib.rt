@@ -1,4 +1,6 @@
 // Kinds of value: what a value means, when two mean the same, and the search for an equal one.
+#![tactic(auto)]
+
 ghost use Rattle.std.specs.Prelude.{◌≡◌, Bool, Decides};
 
 pub mod kinds;
