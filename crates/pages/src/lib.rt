@@ -1,4 +1,6 @@
 // Settings pages: screens with slots, lines that lead from screen to screen, and a start.
+#![tactic(auto)]
+
 pub mod forming;
 pub mod page;
 

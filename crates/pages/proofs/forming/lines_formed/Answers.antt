@@ -10,7 +10,7 @@ pub returns-then-lines-le128 : goal.returns-then-lines-le128
 returns-then-lines-le128 c =
     let ls = c.args.lines.now in
     let few : leb (length (map line_model ls)) 128 ≡ true = ap (λ n. leb n 128) (length-map ls line_model) ∙ le-leb (length ls) 128 c.if-lines-le128.true in
-    c.each-line-formed.ensures ∙ ap (λ b. b && every (line_formed c.args.screens.now) (map line_model ls)) (sym few)
+    c.each_line_formed.ensures ∙ ap (λ b. b && every (line_formed c.args.screens.now) (map line_model ls)) (sym few)
 
 pub returns-else-lines-le128 : goal.returns-else-lines-le128
 returns-else-lines-le128 c =
