@@ -1,10 +1,10 @@
 -- A text cut at the end of its first line, and what each part says.
-use Rattle.std.proofs.Common.{◌≡◌, ℕ, zero, suc, ◌+◌, ◌-◌, ◌<◌, ◌≤◌, List, [], ◌∷◌, length, take, drop, Some, None, Ok, Err, Result, sym, refl, ap, ◌∙◌, arith, length-drop}
+use Rattle.std.proofs.Common.{◌≡◌, ℕ, zero, suc, ◌+◌, ◌-◌, ◌<◌, List, [], ◌∷◌, length, take, drop, Some, None, Ok, Err, Result, sym, refl, ap, ◌∙◌, arith, length-drop}
 use Rattle.std.specs.List.{slice_get}
 use Rattle.std.proofs.lemmas.List.{take_rest}
 use Rattle.texts.specs.declared.faults.TextFault.{TextFault}
 use Rattle.texts.specs.Answers.{after}
-use Rattle.texts.specs.Lines.{Lines, last, ended, lines_of, pieces, line_at, ended_at}
+use Rattle.texts.specs.Lines.{Lines, lines_of, pieces, line_at, ended_at}
 use Rattle.texts.specs.Reading.{line_bytes, first_bytes}
 use Rattle.texts.proofs.Ends.{split_at, unsplit}
 

@@ -1,8 +1,8 @@
 -- What the end of a text's first line says of its lines.
-use Rattle.std.proofs.Common.{◌≡◌, ℕ, zero, suc, ◌+◌, ◌-◌, ◌<◌, ◌≤◌, Bool, true, false, cond, eqb, List, [], ◌∷◌, length, take, drop, IfSome, Some, None, Option, sym, refl, ap, ◌∙◌, add-one, arith}
+use Rattle.std.proofs.Common.{◌≡◌, ℕ, suc, ◌+◌, ◌<◌, Bool, true, false, cond, eqb, List, [], ◌∷◌, length, take, drop, IfSome, Some, None, Option, sym, refl, ap, ◌∙◌, add-one, arith}
 use Rattle.std.specs.Option.{option_map}
 use Rattle.values.proofs.Searched.{place_good}
-use Rattle.texts.specs.Lines.{Lines, last, ended, longer, lines_of, ended_at}
+use Rattle.texts.specs.Lines.{last, ended, longer, lines_of, ended_at}
 
 -- a text's lines, by where its first line ends
 abbrev pub Split : List ℕ → Option ℕ → Type 0

@@ -1,6 +1,6 @@
 // Texts and their lines.
 ghost use Rattle.std.specs.Prelude.{◌≡◌, ℕ, ◌+◌, ◌<◌, ◌≤◌, length, drop, IfSome, IfOk};
-ghost use Rattle.std.specs.Option.{option_map as option-mapped};
+ghost use Rattle.std.specs.Option.{option_map as option_mapped};
 ghost use Rattle.std.specs.List.{slice_get};
 ghost use Rattle.lists.specs.Held.{held};
 ghost use Rattle.texts.specs.Answers.{mapped};
@@ -63,7 +63,7 @@ pub fn count_lines(text: &[u8]) -> usize
 
 // The first line without its 0A; a last piece of one byte or more is a line too.
 fn first_piece(text: &[u8]) -> Option<&[u8]>
-    ensures { option-mapped (λ l. l.now) result ≡ slice_get (pieces (lines_of text.now)) 0 }
+    ensures { option_mapped (λ l. l.now) result ≡ slice_get (pieces (lines_of text.now)) 0 }
 {
     match line_end(text) {
         Some(n) => Some(&text[0..n]),
@@ -73,7 +73,7 @@ fn first_piece(text: &[u8]) -> Option<&[u8]>
 
 // The line with this number, counted from 1.
 fn numbered(text: &[u8], number: usize) -> Option<&[u8]>
-    ensures { option-mapped (λ l. l.now) result ≡ line_at (lines_of text.now) number }
+    ensures { option_mapped (λ l. l.now) result ≡ line_at (lines_of text.now) number }
 {
     if number == 0 {
         return None;

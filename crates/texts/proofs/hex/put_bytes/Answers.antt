@@ -8,7 +8,7 @@ pub loop-b-preserved : goal.loop-b-preserved
 loop-b-preserved g c =
     emit_step g.row.N hexes c.args.bytes.now c.loop-b.b-index 0 (held c.loop-b.text) _ (hex (get_or c.args.bytes.now c.loop-b.b-index 0)) _
     c.loop-b-test.true refl
-    (c.extend.ensures ∙ (λ i. take g.row.N (held c.loop-b.text ++ (c.hex-char.ensures i ∷ c.hex-char-in-loop-b.ensures i ∷ []))))
+    (c.extend.ensures ∙ (λ i. take g.row.N (held c.loop-b.text ++ (c.hex_char.ensures i ∷ c.hex_char-in-loop-b.ensures i ∷ []))))
     c.loop-b.invariant
 
 pub returns : goal.returns

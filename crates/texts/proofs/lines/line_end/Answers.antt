@@ -1,4 +1,3 @@
-use Rattle.std.proofs.Common.{◌<◌, eqb, length, MatchOption}
 use Rattle.texts.proofs.Ends.{end_within}
 use Rattle.texts.proofs.lines.line_end.Goals as goal
 
