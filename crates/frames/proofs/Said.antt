@@ -1,21 +1,17 @@
 -- A frame that bytes say is in range, and has just those bytes.
-use Rattle.std.proofs.Common.{◌≡◌, ℕ, zero, suc, ◌+◌, ◌-◌, ◌<◌, ◌≤◌, Bool, true, false, cond, ◌&&◌, ◌||◌, eqb, ltb, leb, ◌⊎◌, List, [], ◌∷◌, map, length, get_or, drop, Ok, Err, Result, sym, refl, ap, ◌∙◌, subst, inl, inr, ⊎_elim, arith}
+use Rattle.std.proofs.Common.{◌≡◌, ℕ, ◌+◌, ◌≤◌, Bool, true, false, cond, ◌||◌, eqb, leb, List, [], ◌∷◌, map, length, get_or, drop, Ok, sym, refl, ap, subst, arith}
 use lib.ListN.{length-map}
 use Rattle.std.proofs.lemmas.Bool.Decides.{nat_tests}
 use Rattle.std.proofs.lemmas.Bool.{and_parts, and_from, eqb-true, eqb-false, leb-true, le-leb}
 use Rattle.lists.specs.Between.{between}
 use Rattle.lists.specs.Every.{every}
-use Rattle.texts.specs.Answers.{asked}
 use Rattle.texts.proofs.Asked.{asked_ok}
-use Rattle.pages.specs.declared.Source.{Source}
 use Rattle.pages.specs.declared.Source.TheVariants.{Kept, Taken}
-use Rattle.pages.specs.declared.LineKind.{LineKind}
 use Rattle.pages.specs.declared.LineKind.TheVariants.{Take, Show}
-use Rattle.frames.specs.declared.faults.FrameFault.{FrameFault}
-use Rattle.frames.specs.Model.{FrameModel, header, screen, line}
+use Rattle.frames.specs.Model.{FrameModel, screen}
 use Rattle.frames.specs.Fields.{source_of, source_byte, name_of, name_byte, kind_of, kind_byte, third_byte}
 use Rattle.frames.specs.Ranges.{header_ok, third_ok, line_ok, fields_ok, in_range}
-use Rattle.frames.specs.Parsing.{frame_of, frame_answer, sized, header_of, line_of, ranged}
+use Rattle.frames.specs.Parsing.{frame_of, frame_answer, sized, header_of, line_of}
 use Rattle.frames.specs.Bytes.{frame_bytes, sound, source_sound, kind_sound, name_sound}
 
 -- the frame has these bytes and is in range

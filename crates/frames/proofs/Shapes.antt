@@ -1,12 +1,11 @@
 -- The frame of bytes whose kind and number of bytes are known.
-use Rattle.std.proofs.Common.{◌≡◌, ℕ, ◌+◌, ◌-◌, ◌<◌, ◌≤◌, Bool, true, cond, eqb, List, length, get_or, take, drop, Ok, Result, sym, refl, ap, ◌∙◌, arith, length-drop}
+use Rattle.std.proofs.Common.{◌≡◌, ℕ, ◌-◌, ◌≤◌, true, cond, eqb, List, length, get_or, take, drop, Ok, Result, sym, refl, ap, ◌∙◌, arith, length-drop}
 use Rattle.std.proofs.lemmas.List.{take_all, take_rest}
 use Rattle.std.proofs.lemmas.Bool.{le-leb, and_from}
 use Rattle.lists.specs.Between.{between}
 use Rattle.texts.specs.Answers.{asked, after, lifted}
 use Rattle.texts.specs.Lines.{Lines}
 use Rattle.texts.specs.Reading.{first_bytes}
-use Rattle.pages.specs.declared.Screen.{Screen}
 use Rattle.frames.specs.declared.faults.FrameFault.{FrameFault}
 use Rattle.frames.specs.declared.faults.FrameFault.TheVariants.{Text}
 use Rattle.frames.specs.declared.faults.FrameQuestion.TheVariants.{Kind, Size}

@@ -1,8 +1,8 @@
 -- A frame in range is read again from its bytes, and from its line of text; a line that is read is its frame's.
-use Rattle.std.proofs.Common.{◌≡◌, ℕ, suc, ◌+◌, ◌<◌, ◌≤◌, Bool, true, false, cond, ◌&&◌, ◌||◌, eqb, leb, List, [], ◌∷◌, map, length, get_or, drop, Ok, Err, Result, sym, refl, ap, ◌∙◌, arith}
+use Rattle.std.proofs.Common.{◌≡◌, ℕ, ◌+◌, ◌≤◌, true, false, cond, ◌||◌, eqb, leb, List, [], ◌∷◌, map, length, get_or, Ok, refl, ap, ◌∙◌, arith}
 use lib.ListN.{length-map}
 use Rattle.std.proofs.lemmas.Bool.Decides.{nat_tests}
-use Rattle.std.proofs.lemmas.Bool.{and_parts, and_from, leb-true, le-leb}
+use Rattle.std.proofs.lemmas.Bool.{and_parts, and_from, leb-true}
 use Rattle.lists.specs.Between.{between}
 use Rattle.lists.specs.Every.{every}
 use Rattle.texts.specs.Answers.{after, lifted}
@@ -21,7 +21,7 @@ use Rattle.frames.specs.declared.faults.FrameQuestion.TheVariants.{Kind, Size, R
 use Rattle.frames.specs.Model.{HeaderModel, FrameModel, header, screen, line}
 use Rattle.frames.specs.Fields.{source_of, source_byte, name_of, name_byte, kind_of, kind_byte, third_byte}
 use Rattle.frames.specs.Ranges.{header_ok, third_ok, line_ok, fields_ok, in_range}
-use Rattle.frames.specs.Parsing.{frame_fault, frame_of, frame_answer, sized, ranged, line_frame}
+use Rattle.frames.specs.Parsing.{frame_fault, frame_of, frame_answer, sized, line_frame}
 use Rattle.frames.specs.Bytes.{frame_bytes, sound, source_sound, kind_sound, name_sound}
 use Rattle.frames.proofs.Shapes.{within}
 use Rattle.frames.proofs.Said.{frame_says}

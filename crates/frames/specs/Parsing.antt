@@ -1,5 +1,5 @@
 -- What the bytes of a line say as a frame.
-use Rattle.std.specs.Prelude.{◌≡◌, ℕ, ◌≤◌, Bool, true, cond, List, map, length, drop, Ok, Err, Result, ◌==◌, slice_index}
+use Rattle.std.specs.Prelude.{ℕ, Bool, cond, List, map, length, drop, Ok, Result, ◌==◌, slice_index}
 use Rattle.lists.specs.Between.{between}
 use Rattle.texts.specs.Answers.{asked, after, lifted}
 use Rattle.texts.specs.Lines.{Lines}

@@ -1,4 +1,6 @@
 // The frame layer of dumps: what the bytes of a line say, and the bytes again.
+#![tactic(auto)]
+
 pub mod bytes;
 pub mod faults;
 mod fields;

@@ -11,5 +11,5 @@ returns c =
     both_parts 16 _ _ _ (1 ∷ h.screens ∷ h.lines ∷ h.start ∷ []) (map name_byte (held h.numbers))
     c.new-bytes.ensures
     c.extend.ensures
-    (c.put-fields.ensures ∙ ap (λ xs. take 16 (held c.extend.new.self ++ map name_byte xs)) c.as-slice.ensures)
+    (c.put_fields.ensures ∙ ap (λ xs. take 16 (held c.extend.new.self ++ map name_byte xs)) c.as_slice.ensures)
     (omega (arith, length-map (held h.numbers) name_byte, held_few h.numbers))

@@ -12,7 +12,7 @@ loop-b-preserved g c =
     let i = c.loop-b.b-index in
     emit_step 4 (map g.F.Field.of) c.args.bytes.now i 0 old _ (g.F.Field.of (get_or c.args.bytes.now i 0) ∷ []) _
     c.loop-b-test.true refl
-    (c.push.ensures.held ∙ push_cut 4 old _ (held_few c.loop-b.out) ∙ ap (λ x. take 4 (old ++ x ∷ [])) c.of-byte.ensures)
+    (c.push.ensures.held ∙ push_cut 4 old _ (held_few c.loop-b.out) ∙ ap (λ x. take 4 (old ++ x ∷ [])) c.of_byte.ensures)
     c.loop-b.invariant
 
 pub returns : goal.returns

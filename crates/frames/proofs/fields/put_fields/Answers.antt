@@ -10,7 +10,7 @@ loop-f-preserved g c =
     let i = c.loop-f.f-index in
     emit_step 16 (map g.F.Field.byte) c.args.fields.now i x old _ (g.F.Field.byte (get_or c.args.fields.now i x) ∷ []) _
     c.loop-f-test.true refl
-    (c.extend.ensures ∙ ap (λ b. take 16 (old ++ b ∷ [])) (c.to-byte.ensures ∙ ap g.F.Field.byte c.f-item.is))
+    (c.extend.ensures ∙ ap (λ b. take 16 (old ++ b ∷ [])) (c.to_byte.ensures ∙ ap g.F.Field.byte c.f-item.is))
     c.loop-f.invariant
 
 pub returns : goal.returns

@@ -9,11 +9,11 @@ use Rattle.frames.proofs.parsing.take_frame.Goals as goal
 
 pub returns : goal.returns
 returns c =
-    let bs = held c.in-ok-bytes.bytes in
-    let told = c.in-ok-bytes.ensures in
-    let said = c.in-ok-frame.ensures ∙ ap (frame_answer c.args.at) c.as-slice.ensures in
+    let bs = held c.in_ok-bytes.bytes in
+    let told = c.in_ok-bytes.ensures in
+    let said = c.in_ok-frame.ensures ∙ ap (frame_answer c.args.at) c.as_slice.ensures in
     record {
-      is = frame_first c.args.at (lines_of c.args.text.now) (lines_of (drop c.in-ok-bytes.taken c.args.text.now)) bs (frame_model c.in-ok-frame.frame) told.is said;
+      is = frame_first c.args.at (lines_of c.args.text.now) (lines_of (drop c.in_ok-bytes.taken c.args.text.now)) bs (frame_model c.in_ok-frame.frame) told.is said;
       within = told.within;
-      sound = (frame_says c.args.at bs (frame_model c.in-ok-frame.frame) (sym said)).1;
+      sound = (frame_says c.args.at bs (frame_model c.in_ok-frame.frame) (sym said)).1;
     }
