@@ -1,5 +1,5 @@
 -- What is due after a frame, and the room that it leaves.
-use Rattle.std.proofs.Common.{◌≡◌, ℕ, zero, suc, ◌+◌, ◌-◌, ◌<◌, ◌≤◌, true, false, cond, eqb, ltb, List, [], ◌∷◌, ◌++◌, map, length, Ok, Err, Result, sym, refl, ap, ◌∙◌, arith}
+use Rattle.std.proofs.Common.{◌≡◌, ℕ, zero, suc, ◌+◌, ◌-◌, ◌<◌, ◌≤◌, true, false, cond, eqb, ltb, List, [], ◌∷◌, ◌++◌, length, Ok, Err, Result, sym, refl, ap, ◌∙◌, arith}
 use Rattle.std.proofs.lemmas.List.{length_push}
 use Rattle.std.proofs.lemmas.Bool.{lt-ltb, ltb-true, cond-true, ne_eqb}
 use Rattle.texts.specs.Answers.{asked}
@@ -13,7 +13,7 @@ use Rattle.frames.specs.Model.{frame_model}
 use Rattle.dump.specs.declared.faults.PageQuestion.TheVariants.{Line as NoLine}
 use Rattle.dump.specs.declared.faults.PageFault.{PageFault}
 use Rattle.dump.specs.declared.reader.Due.{Due}
-use Rattle.dump.specs.declared.reader.Due.TheVariants.{Header, Screens, Lines, Nothing}
+use Rattle.dump.specs.declared.reader.Due.TheVariants.{Screens, Lines, Nothing}
 use Rattle.dump.specs.Due.{screens_due, lines_due, some_due, after_lines, after_screens}
 use Rattle.dump.specs.Steps.{ReaderModel, page_fault, take_screen, take_line, step}
 

@@ -1,20 +1,18 @@
 -- The frames of a well-formed page are accepted, as that page.
-use Rattle.std.proofs.Common.{◌≡◌, ℕ, zero, suc, ◌+◌, ◌-◌, ◌<◌, ◌≤◌, Bool, true, false, cond, ◌&&◌, eqb, ltb, leb, List, [], ◌∷◌, ◌++◌, map, length, Ok, Err, Result, sym, refl, ap, ◌∙◌, append_assoc, append-nil, arith}
+use Rattle.std.proofs.Common.{◌≡◌, ℕ, suc, ◌+◌, ◌-◌, true, eqb, ltb, leb, List, [], ◌∷◌, ◌++◌, map, length, Ok, sym, ap, ◌∙◌, append_assoc, append-nil, arith}
 use Rattle.std.proofs.lemmas.Bool.{and_parts}
 use Rattle.lists.specs.Every.{every}
-use Rattle.texts.specs.Answers.{asked, after}
+use Rattle.texts.specs.Answers.{after}
 use Rattle.texts.proofs.Asked.{asked_yes}
 use Rattle.pages.specs.declared.Screen.{Screen}
 use Rattle.pages.specs.Model.{LineModel, PageModel}
-use Rattle.pages.specs.Formed.{slots_at, line_stands, line_formed, few_slots, small_number, screens_formed, lines_formed, start_formed, well_formed}
-use Rattle.frames.specs.Model.{FrameModel, header, screen, line}
-use Rattle.dump.specs.declared.faults.PageFault.{PageFault}
+use Rattle.pages.specs.Formed.{slots_at, line_stands, line_formed, small_number, screens_formed, lines_formed, start_formed, well_formed}
+use Rattle.frames.specs.Model.{screen, line}
 use Rattle.dump.specs.declared.faults.PageQuestion.TheVariants.{Start, Line, Numbers}
-use Rattle.dump.specs.declared.reader.Due.{Due}
-use Rattle.dump.specs.declared.reader.Due.TheVariants.{Screens, Lines, Nothing}
+use Rattle.dump.specs.declared.reader.Due.TheVariants.{Screens}
 use Rattle.dump.specs.Due.{after_lines, after_screens}
-use Rattle.dump.specs.Steps.{ReaderModel, page_fault, first_reader, step, finish}
-use Rattle.dump.specs.Written.{header_of, frames_of}
+use Rattle.dump.specs.Steps.{page_fault, first_reader}
+use Rattle.dump.specs.Written.{frames_of}
 use Rattle.dump.proofs.Feeding.{fed, awaiting, grown, grown_none, due_lines, due_screens, some_screens, Started}
 
 -- lines in their turn

@@ -1,23 +1,22 @@
 -- The page layer over a list of frames: which frames it accepts, and as which page.
-use Rattle.std.proofs.Common.{◌≡◌, ℕ, zero, suc, ◌+◌, ◌-◌, ◌<◌, ◌≤◌, Bool, true, false, cond, ◌&&◌, eqb, ltb, leb, List, [], ◌∷◌, ◌++◌, map, length, Ok, Err, Result, sym, refl, ap, ◌∙◌, subst, append_assoc, append-nil, sub-one, arith}
-use lib.ListN.{length-map}
+use Rattle.std.proofs.Common.{◌≡◌, ℕ, zero, suc, ◌+◌, ◌-◌, Bool, true, false, cond, eqb, ltb, leb, List, [], ◌∷◌, ◌++◌, map, length, Ok, Result, sym, refl, ap, ◌∙◌, subst, append_assoc, append-nil, arith}
 use Rattle.std.proofs.lemmas.Bool.{and_parts, and_from, false≢true}
 use Rattle.lists.specs.Between.{between}
 use Rattle.lists.specs.Every.{every}
 use Rattle.texts.specs.Answers.{asked, after}
-use Rattle.texts.proofs.Asked.{asked_ok, asked_yes, not_both}
+use Rattle.texts.proofs.Asked.{asked_ok, not_both}
 use Rattle.pages.specs.declared.Screen.{Screen}
 use Rattle.pages.specs.Model.{LineModel, PageModel}
-use Rattle.pages.specs.Formed.{slots_at, line_stands, line_formed, few_slots, small_number, screens_formed, lines_formed, start_formed, well_formed}
+use Rattle.pages.specs.Formed.{slots_at, line_stands, line_formed, few_slots, screens_formed, lines_formed, well_formed}
 use Rattle.frames.specs.Model.{HeaderModel, FrameModel, header, screen, line}
-use Rattle.frames.specs.Bytes.{sound, kind_sound, source_sound, name_sound}
+use Rattle.frames.specs.Bytes.{sound, kind_sound, name_sound}
 use Rattle.dump.specs.declared.faults.PageFault.{PageFault}
-use Rattle.dump.specs.declared.faults.PageQuestion.TheVariants.{Awaited, Start, Line, Complete, Numbers}
+use Rattle.dump.specs.declared.faults.PageQuestion.TheVariants.{Start, Line, Numbers}
 use Rattle.dump.specs.declared.reader.Due.{Due}
-use Rattle.dump.specs.declared.reader.Due.TheVariants.{Header, Screens, Lines, Nothing}
+use Rattle.dump.specs.declared.reader.Due.TheVariants.{Screens, Lines, Nothing}
 use Rattle.dump.specs.Due.{after_lines, after_screens}
-use Rattle.dump.specs.Steps.{ReaderModel, page_fault, first_reader, step, finish, complete}
-use Rattle.dump.specs.Written.{header_of, frames_of}
+use Rattle.dump.specs.Steps.{ReaderModel, page_fault, first_reader, step, finish}
+use Rattle.dump.specs.Written.{frames_of}
 use Rattle.dump.proofs.Dues.{not_none}
 
 -- frames taken one after another, from the text line at on

@@ -1,5 +1,5 @@
 -- One line of a run, as the reader takes it.
-use Rattle.std.proofs.Common.{◌≡◌, ℕ, ◌+◌, ◌<◌, Bool, true, false, cond, eqb, List, [], ◌∷◌, length, drop, Ok, Err, Result, sym, refl, ap, ◌∙◌, arith}
+use Rattle.std.proofs.Common.{◌≡◌, ℕ, ◌+◌, ◌<◌, Bool, true, false, cond, eqb, List, [], ◌∷◌, length, Ok, Err, Result, sym, refl, ap, ◌∙◌, arith}
 use Rattle.texts.specs.Answers.{after, lifted}
 use Rattle.texts.specs.Lines.{Lines, last, ended, longer, lines_of}
 use Rattle.texts.specs.Reading.{line_bytes}

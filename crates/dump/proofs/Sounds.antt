@@ -1,12 +1,12 @@
 -- The frames of a well-formed page are in range, are bytes, and make a short text.
-use Rattle.std.proofs.Common.{◌≡◌, ℕ, zero, suc, ◌+◌, ◌*◌, ◌<◌, ◌≤◌, Bool, true, false, ◌&&◌, eqb, ltb, leb, List, [], ◌∷◌, ◌++◌, map, length, get_or, sym, refl, ap, ◌∙◌, ⊎_elim, arith, length-append}
+use Rattle.std.proofs.Common.{◌≡◌, ℕ, zero, suc, ◌*◌, ◌≤◌, Bool, true, ◌&&◌, eqb, ltb, leb, List, [], ◌∷◌, map, length, sym, refl, ap, ◌∙◌, arith, length-append}
 use lib.ListN.{length-map}
 use Rattle.std.specs.List.{flat_map}
 use Rattle.std.proofs.lemmas.Bool.{and_parts, and_from, leb-true, le-leb, ltb-true, eqb-true}
 use Rattle.lists.specs.Between.{between}
 use Rattle.lists.specs.Every.{every}
 use Rattle.lists.proofs.Tested.{every_append, every_so}
-use Rattle.texts.specs.Digits.{hexes, line_text}
+use Rattle.texts.specs.Digits.{hexes}
 use Rattle.texts.proofs.Trips.{is_byte, hexes_length}
 use Rattle.pages.specs.declared.Name.{Name}
 use Rattle.pages.specs.declared.Screen.{Screen}
@@ -16,7 +16,7 @@ use Rattle.pages.specs.declared.LineKind.{LineKind}
 use Rattle.pages.specs.declared.LineKind.TheVariants.{Take, Show}
 use Rattle.pages.specs.Model.{LineModel, PageModel}
 use Rattle.pages.specs.Formed.{slots_at, source_stands, shown_stands, line_stands, line_formed, few_slots, small_number, screens_formed, lines_formed, start_formed, well_formed}
-use Rattle.frames.specs.Model.{HeaderModel, FrameModel, header, screen, line}
+use Rattle.frames.specs.Model.{FrameModel, header, screen, line}
 use Rattle.frames.specs.Fields.{name_byte, source_byte, kind_byte, third_byte}
 use Rattle.frames.specs.Bytes.{frame_bytes, sound, kind_sound, source_sound, name_sound}
 use Rattle.frames.proofs.Trips.{frame_size}

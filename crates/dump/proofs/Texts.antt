@@ -5,9 +5,9 @@ use Rattle.std.proofs.lemmas.List.{take_all}
 use Rattle.lists.proofs.Extends.{emit_two}
 use Rattle.pages.specs.declared.Screen.{Screen}
 use Rattle.pages.specs.declared.Line.{Line}
-use Rattle.pages.specs.Model.{LineModel, PageModel, line_model}
-use Rattle.frames.specs.Model.{HeaderModel, FrameModel, header, screen, line}
-use Rattle.dump.specs.Written.{header_of, frames_of, frame_text, written}
+use Rattle.pages.specs.Model.{PageModel, line_model}
+use Rattle.frames.specs.Model.{HeaderModel, header, screen, line}
+use Rattle.dump.specs.Written.{header_of, frame_text, written}
 
 joined_append : {X A : Type 0} (f : X → List A) (xs ys : List X) → flat_map f (xs ++ ys) ≡ flat_map f xs ++ flat_map f ys
 joined_append f [] ys = refl

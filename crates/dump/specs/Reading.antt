@@ -1,5 +1,5 @@
 -- What a text says: the page whose dump it is, or the first question that gets a no.
-use Rattle.std.specs.Prelude.{ℕ, ◌+◌, List, [], ◌∷◌, Ok, Err, Result}
+use Rattle.std.specs.Prelude.{ℕ, ◌+◌, List, [], ◌∷◌, Err, Result}
 use Rattle.texts.specs.Answers.{after, lifted}
 use Rattle.texts.specs.Lines.{Lines, last, ended, lines_of}
 use Rattle.texts.specs.Reading.{text_fault, short_enough}

@@ -1,5 +1,5 @@
 -- The page layer: how a frame is taken, and what is asked after the last.
-use Rattle.std.specs.Prelude.{ℕ, ◌-◌, Bool, true, false, List, [], ◌∷◌, ◌++◌, map, length, Ok, Err, Result, ◌==◌, nat_lt}
+use Rattle.std.specs.Prelude.{ℕ, ◌-◌, Bool, true, false, [], ◌∷◌, ◌++◌, map, length, Ok, Err, Result, ◌==◌, nat_lt}
 use Rattle.lists.specs.Held.{held}
 use Rattle.texts.specs.Answers.{asked}
 use Rattle.pages.specs.declared.Screen.{Screen}

@@ -1,4 +1,4 @@
-use Rattle.std.proofs.Common.{◌≡◌, ◌++◌, map, length, take, sym, ap, ◌∙◌, arith}
+use Rattle.std.proofs.Common.{◌≡◌, ◌++◌, length, take, sym, ap, ◌∙◌, arith}
 use lib.ListN.{length-map}
 use Rattle.std.proofs.lemmas.List.{take_all}
 use Rattle.lists.specs.Held.{held}
@@ -11,8 +11,8 @@ use Rattle.dump.proofs.Sounds.{written_short}
 use Rattle.dump.proofs.Texts.{page_text}
 use Rattle.dump.proofs.writing.page_text.Goals as goal
 
-pub overflow-cast-header-2 : goal.overflow-cast-header-2
-overflow-cast-header-2 c =
+pub overflow_cast-header-2 : goal.overflow_cast-header-2
+overflow_cast-header-2 c =
     let p = c.args.page.now in
     let ls = c.lines.result.now in
     omega (arith, length-map ls line_model, ap length c.lines.ensures, length-map (held p.lines) line_model, held_few p.lines)
@@ -26,7 +26,7 @@ returns c =
     c.extend.ensures ∙ (λ i. take 4 (c.new-numbers.ensures i ++ c.numbers.ensures i)) ∙ take_all 4 (held p.numbers) (held_few p.numbers) in
     let is : h ≡ header_of (page_model p) =
     λ i. record { screens = ap length c.screens.ensures i; lines = (sym (length-map ls line_model) ∙ ap length c.lines.ensures) i; start = c.start.ensures i; numbers = numbers i } in
-    page_text (page_model p) (held c.new-text.result) (held c.put-frame.new.text) (held c.put-screens.new.text) (held c.put-lines.new.text)
+    page_text (page_model p) (held c.new-text.result) (held c.put_frame.new.text) (held c.put_screens.new.text) (held c.put_lines.new.text)
     h c.screens-2.result.now c.lines-2.result.now
-    c.new-text.ensures c.put-frame.ensures c.put-screens.ensures c.put-lines.ensures
+    c.new-text.ensures c.put_frame.ensures c.put_screens.ensures c.put_lines.ensures
     is c.screens-2.ensures c.lines-2.ensures (written_short (page_model p) p.formed)

@@ -14,7 +14,7 @@ loop-l-preserved c =
     let x = c.l-item.result in
     let old = held c.loop-l.text in
     emit_step 4096 (flat_map (λ y. frame_text (line (line_model y)))) xs i x old _ (frame_text (line (line_model (get_or xs i x)))) _
-    c.loop-l-test.true refl (c.put-frame.ensures ∙ ap (λ y. take 4096 (old ++ frame_text (line (line_model y)))) c.l-item.is) c.loop-l.invariant
+    c.loop-l-test.true refl (c.put_frame.ensures ∙ ap (λ y. take 4096 (old ++ frame_text (line (line_model y)))) c.l-item.is) c.loop-l.invariant
 
 pub returns : goal.returns
 returns c =

@@ -1,4 +1,4 @@
-use Rattle.std.proofs.Common.{◌++◌, get_or, refl}
+use Rattle.std.proofs.Common.{get_or, refl}
 use Rattle.std.specs.List.{flat_map}
 use Rattle.lists.specs.Held.{held}
 use Rattle.lists.proofs.Extends.{emit_step, emit_end, held_few}
@@ -11,7 +11,7 @@ loop-s-preserved c =
     let i = c.loop-s.s-index in
     let xs = c.args.screens.now in
     emit_step 4096 (flat_map (λ s. frame_text (screen s))) xs i (record { slots = 0 }) (held c.loop-s.text) _ (frame_text (screen (get_or xs i (record { slots = 0 })))) _
-    c.loop-s-test.true refl c.put-frame.ensures c.loop-s.invariant
+    c.loop-s-test.true refl c.put_frame.ensures c.loop-s.invariant
 
 pub returns : goal.returns
 returns c =

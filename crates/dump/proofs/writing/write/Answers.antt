@@ -1,5 +1,4 @@
-use Rattle.std.proofs.Common.{◌≡◌, length, sym, ap, ◌∙◌}
-use Rattle.lists.specs.Held.{held}
+use Rattle.std.proofs.Common.{length, ap, ◌∙◌}
 use Rattle.texts.specs.Outputs.{fitted, laid}
 use Rattle.pages.specs.Stored.{page_model}
 use Rattle.dump.proofs.Laws.{read_written}
