@@ -1,16 +1,16 @@
 -- What counts, held sets and ways of challenging have to do with one another.
-use Rattle.std.proofs.Common.{◌≡◌, ℕ, zero, suc, ◌+◌, ◌-◌, ◌<◌, ◌≤◌, Bool, true, false, cond, not, ◌&&◌, ◌||◌, ◌⊎◌, List, [], ◌∷◌, ◌++◌, length, Some, None, Option, sym, refl, ap, ◌∙◌, subst, ap₂, inl, inr, ⊎_elim, true≢false, arith}
+use Rattle.std.proofs.Common.{◌≡◌, ℕ, zero, suc, ◌+◌, ◌-◌, ◌<◌, ◌≤◌, Bool, true, false, cond, not, ◌&&◌, ◌⊎◌, List, [], ◌∷◌, length, Some, None, Option, sym, refl, ap, ◌∙◌, subst, ap₂, inl, inr, ⊎_elim, arith}
 use mathlib.Core.Bool.{false≢true}
 use Rattle.std.specs.List.{slice_get}
-use Rattle.std.proofs.lemmas.Bool.{and_parts, and_from, or_cases, or_left, or_right, or_parts, or_from, cases_Bool, both_ways, not-true, cases_lt, cases_order, and_cases, cond_both}
+use Rattle.std.proofs.lemmas.Bool.{and_parts, and_from, or_cases, or_left, or_right, or_parts, cases_Bool, both_ways, not-true, cases_lt, cases_order, and_cases, cond_both}
 use Rattle.games.proofs.Members.{every_listed, every_replies}
 use Rattle.games.proofs.Winning.{wins}
 use Rattle.games.specs.Counts.{forces, within, has_count, CountIs}
-use Rattle.games.specs.Held.{Held, answers, Holds, HeldBy}
+use Rattle.games.specs.Held.{Held, Holds, HeldBy}
 use Rattle.games.specs.Listing.{listed, Closed}
-use Rattle.games.specs.Meaning.{Meaning, Challenge, replies_at}
+use Rattle.games.specs.Meaning.{Meaning, Challenge}
 use Rattle.games.specs.Ways.{Way, sure, SureWithin, Fails, each_reply, chosen}
-use Rattle.lists.proofs.Tested.{by_true, by_false, same_test, every_mono, any_mono, any_both, every_both, any_ext, every_ext, number, number_le, number_more, every_not, any_nth, every_nth}
+use Rattle.lists.proofs.Tested.{by_true, by_false, same_test, every_mono, any_mono, any_both, number, number_le, number_more, every_not, any_nth, every_nth}
 use Rattle.lists.specs.Every.{any, every}
 
 pub forces_mono : (m : Meaning) (p q : ℕ → Bool) (x : ℕ) → ((y : ℕ) → p y ≡ true → q y ≡ true) → forces m.at p x ≡ true → forces m.at q x ≡ true

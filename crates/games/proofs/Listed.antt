@@ -1,15 +1,15 @@
 -- The listing: it grows, it stands still once all listed codes are expanded, and then it is closed.
-use Rattle.std.proofs.Common.{◌≡◌, ℕ, zero, suc, ◌+◌, ◌<◌, ◌≤◌, Bool, true, false, cond, ◌&&◌, ◌||◌, eqb, ◌⊎◌, List, [], ◌∷◌, ◌++◌, length, get_or, take, drop, set, Some, None, Option, sym, refl, ap, ◌∙◌, subst, inl, inr, ⊎_elim, append_assoc, append-nil, add-one, arith, length-append, length-set, length-take-le, take_all, get_or-set_other, get_or-take, take-suc, take-suc-set, eq-eqb, eqb-true}
+use Rattle.std.proofs.Common.{◌≡◌, ℕ, zero, suc, ◌<◌, ◌≤◌, Bool, true, cond, eqb, List, [], ◌∷◌, ◌++◌, length, get_or, take, Some, None, Option, sym, refl, ap, ◌∙◌, subst, ⊎_elim, append_assoc, append-nil, arith, length-append, take_all, take-suc, eq-eqb}
 use mathlib.Core.Bool.{false≢true}
 use lib.Seq.{take-append-le}
-use Rattle.std.proofs.lemmas.Bool.{cases_lt, cases_Bool, cond_both, cond-true, cond-false, or_left, or_right, or_cases, and_from, and_parts}
+use Rattle.std.proofs.lemmas.Bool.{cases_lt, cond_both, or_left, or_right, or_cases, and_from}
 use Rattle.std.proofs.lemmas.Option.{slice_get-get_or, slice_get_past}
 use Rattle.std.specs.List.{slice_get}
-use Rattle.games.proofs.Members.{every_listed, every_from_listed}
+use Rattle.games.proofs.Members.{every_listed}
 use Rattle.games.specs.Listing.{listed, with_new, listing, expanded, Reached, at_start, at_reply, Closed}
-use Rattle.games.specs.Meaning.{Meaning, Challenge, replies_at}
+use Rattle.games.specs.Meaning.{Meaning, replies_at}
 use Rattle.lists.proofs.Tested.{every_mono, every_append}
-use Rattle.lists.specs.Every.{any, every}
+use Rattle.lists.specs.Every.{every}
 
 pub with_new_append : (seen xs ys : List ℕ) → with_new seen (xs ++ ys) ≡ with_new (with_new seen xs) ys
 with_new_append seen [] ys = refl

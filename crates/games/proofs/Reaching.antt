@@ -1,15 +1,13 @@
 -- The listing has each code that the match leads to, once.
-use Rattle.std.proofs.Common.{◌≡◌, ℕ, zero, suc, ◌<◌, ◌≤◌, Bool, true, false, cond, not, ◌&&◌, ◌||◌, eqb, ◌⊎◌, List, [], ◌∷◌, ◌++◌, length, Some, None, Option, sym, refl, ap, ◌∙◌, subst, inl, inr, ⊎_elim, arith, eq-eqb, ne_eqb, eqb-true}
+use Rattle.std.proofs.Common.{◌≡◌, ℕ, zero, suc, ◌<◌, ◌≤◌, true, false, not, ◌&&◌, eqb, ◌⊎◌, List, [], ◌∷◌, ◌++◌, length, Some, None, Option, sym, refl, ap, subst, inl, inr, ⊎_elim, arith, eq-eqb, eqb-true}
 use mathlib.Core.Bool.{false≢true}
-use borrow.Author.Tests.{eqb_false}
-use Rattle.std.proofs.lemmas.Bool.{cases_lt, cases_Bool, cond_both, or_left, or_right, or_cases, or_from, or_parts, and_from, and_parts, not-true, both_ways}
+use Rattle.std.proofs.lemmas.Bool.{eqb-false, cases_lt, cond_both, or_left, or_right, or_cases, or_parts, and_from, and_parts, not-true, both_ways}
 use Rattle.std.specs.List.{slice_get}
-use Rattle.games.proofs.Counting.{sure_iff, count_within, has_within, holds_not_count}
 use Rattle.games.proofs.Listed.{reached_listed}
 use Rattle.games.specs.Listing.{listed, with_new, listing, expanded, Reached, at_start, at_reply, distinct, MoreThan}
 use Rattle.games.specs.Meaning.{Meaning, replies_at}
 use Rattle.lists.proofs.Tested.{by_false, any_mono, number, number_le, number_more}
-use Rattle.lists.specs.Every.{any, every}
+use Rattle.lists.specs.Every.{any}
 
 append_cases : (y : ℕ) (xs ys : List ℕ) → listed y (xs ++ ys) ≡ true → (listed y xs ≡ true) ⊎ (listed y ys ≡ true)
 append_cases y [] ys h = inr h
@@ -32,7 +30,7 @@ distinct_push y (x ∷ xs) n d =
     let ab = and_parts (not (listed x xs)) _ d in
     and_from _ _
     (ap not (by_false _ (λ h. ⊎_elim (λ e. both_ways _ (not-true _ ab.0) e)
-    (λ e. eqb_false y x nb.0 (sym (eqb-true x y (⊎_elim (λ t. t) (λ t. absurd (false≢true t)) (or_cases (eqb x y) _ e))))) (append_cases x xs (y ∷ []) h))))
+    (λ e. eqb-false y x nb.0 (sym (eqb-true x y (⊎_elim (λ t. t) (λ t. absurd (false≢true t)) (or_cases (eqb x y) _ e))))) (append_cases x xs (y ∷ []) h))))
     (distinct_push y xs nb.1 ab.1)
 
 distinct_new : (seen ys : List ℕ) → distinct seen ≡ true → distinct (with_new seen ys) ≡ true

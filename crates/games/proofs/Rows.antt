@@ -1,13 +1,11 @@
 -- Drawn matches.
-use Rattle.std.proofs.Common.{◌≡◌, ℕ, zero, suc, ◌%◌, ◌^◌, ◌<◌, ◌≤◌, Bool, true, false, ◌&&◌, ltb, List, [], ◌∷◌, ◌++◌, map, length, take, drop, Some, None, Option, sym, refl, ap, ◌∙◌, subst, mod-lt, mod-eq_of_lt, arith, lit<, lit≤, lt-ltb}
+use Rattle.std.proofs.Common.{◌≡◌, ℕ, List, length, Some, None, Option, sym, refl, ap, ◌∙◌}
 use lib.ListN.{length-map}
-use Rattle.std.proofs.lemmas.Bool.{and_from}
 use Rattle.std.specs.List.{slice_get}
 use Rattle.std.specs.Option.{option_map}
 use Rattle.lists.proofs.Tested.{nth_map}
 use Rattle.games.specs.Drawn.{drawn, code32, row_challenge, row_replies, rows_at, side_of}
-use Rattle.games.specs.Meaning.{Meaning, Challenge, Below, replies_at, next_at, next_of, side_at, replies_to}
-use Rattle.lists.specs.Every.{every}
+use Rattle.games.specs.Meaning.{next_at, next_of, side_at, replies_to}
 use Rattle.games.specs.declared.drawn.Row.{Row}
 
 module _ (s : ℕ) (rows : List Row) (ys : List ℕ) (x n : ℕ) where

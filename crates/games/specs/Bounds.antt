@@ -1,5 +1,5 @@
 -- The matches made here lead only to codes below their tops, and use none above: the proofs that their ghost members hold.
-use Rattle.std.specs.Prelude.{◌≡◌, ℕ, ◌%◌, ◌^◌, ◌<◌, ◌≤◌, Bool, true, false, List, [], ◌∷◌, map, nat_lt, refl}
+use Rattle.std.specs.Prelude.{◌≡◌, ℕ, ◌^◌, ◌<◌, ◌≤◌, Bool, true, List, [], ◌∷◌, map, nat_lt, refl}
 use Rattle.std.proofs.Common.{ap, ◌∙◌, mod-lt, arith, lit<, lit≤, lt-ltb, ne_eqb}
 use Rattle.std.proofs.lemmas.Bool.{and_from, cond_both, cond-false}
 use Rattle.lists.specs.Every.{every}

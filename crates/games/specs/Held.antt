@@ -1,5 +1,5 @@
 -- Held sets of codes.
-use Rattle.std.specs.Prelude.{◌≡◌, ℕ, ◌<◌, Bool, true, List, length, Some}
+use Rattle.std.specs.Prelude.{◌≡◌, ℕ, Bool, true, Some}
 use Rattle.std.specs.List.{slice_get}
 use Rattle.lists.specs.Every.{every, any}
 use Rattle.games.specs.Meaning.{Meaning, Challenge}

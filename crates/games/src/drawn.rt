@@ -1,6 +1,6 @@
 // A match drawn as rows.
 ghost use Rattle.std.specs.Prelude.{◌≡◌, ℕ, ◌^◌, ◌<◌, ◌≤◌, length};
-ghost use Rattle.std.specs.List.{slice_get as nth-item};
+ghost use Rattle.std.specs.List.{slice_get as nth_item};
 ghost use Rattle.games.specs.Drawn.{drawn, rows_at, of_code, side_of, row_replies};
 ghost use Rattle.games.specs.Bounds.{drawn_below};
 
@@ -38,7 +38,7 @@ impl Predicate<Row> for OfCode {
 
 // The n-th row of a code.
 fn row_at(rows: &[Row], code: u64, n: usize) -> Option<Row>
-    ensures { result ≡ nth-item (rows_at rows.now code) n }
+    ensures { result ≡ nth_item (rows_at rows.now code) n }
 {
     nth(&OfCode(code), rows, n)
 }
@@ -71,7 +71,7 @@ fn row_replies(replies: &[u32], r: Row) -> usize
 
 // One reply of a row.
 fn row_next(replies: &[u32], r: Row, k: usize) -> Option<u32>
-    ensures { result ≡ nth-item (row_replies replies.now r) k }
+    ensures { result ≡ nth_item (row_replies replies.now r) k }
 {
     if k < row_replies(replies, r) {
         Some(replies[r.first as usize + k])

@@ -1,4 +1,6 @@
 // Matches: what one means, and the questions that are put to it.
+#![tactic(auto)]
+
 ghost use Rattle.std.specs.Prelude.{◌≡◌, ℕ, length};
 ghost use Rattle.games.specs.Meaning.{Meaning, Below, side_at, replies_to, next_at};
 

@@ -1,5 +1,4 @@
 use Rattle.std.proofs.Common.{arith, length-drop, length-take}
-use Rattle.games.specs.Drawn.{row_replies}
 use Rattle.games.proofs.drawn.row_replies.Goals as goal
 
 pub returns-then-first-replies : goal.returns-then-first-replies

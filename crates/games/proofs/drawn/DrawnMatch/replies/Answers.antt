@@ -1,4 +1,4 @@
-use Rattle.std.proofs.Common.{length, sym, ap, ◌∙◌}
+use Rattle.std.proofs.Common.{length, sym, ap}
 use Rattle.std.specs.Option.{option_map}
 use Rattle.games.proofs.Rows.{drawn_replies, drawn_none}
 use Rattle.games.proofs.drawn.DrawnMatch.replies.Goals as goal

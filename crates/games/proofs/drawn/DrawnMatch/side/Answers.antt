@@ -1,4 +1,4 @@
-use Rattle.std.proofs.Common.{Some, None, sym, ap, ◌∙◌}
+use Rattle.std.proofs.Common.{Some, None, ap, ◌∙◌}
 use Rattle.games.proofs.Rows.{drawn_side}
 use Rattle.games.proofs.drawn.DrawnMatch.side.Goals as goal
 
