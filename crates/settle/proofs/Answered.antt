@@ -1,21 +1,20 @@
 -- What settling answers, from what its parts leave.
-use Rattle.std.proofs.Common.{◌≡◌, ℕ, zero, suc, ◌+◌, ◌-◌, ◌<◌, ◌≤◌, Bool, true, false, cond, not, eqb, leb, ◌⊎◌, List, [], ◌∷◌, ◌++◌, length, get_or, take, drop, replicate, Some, None, Ok, Err, Option, Result, sym, refl, ap, ◌∙◌, subst, inl, inr, ⊎_elim, arith, length-drop, take-append-drop, length-take-le, get_or-drop, get_or-take, take_at, ext_get_or, drop_at, eq-eqb, le-leb}
+use Rattle.std.proofs.Common.{◌≡◌, ℕ, zero, suc, ◌+◌, ◌-◌, ◌<◌, ◌≤◌, true, eqb, leb, List, ◌++◌, length, get_or, take, drop, replicate, Some, None, Ok, Err, Option, Result, sym, refl, ap, ◌∙◌, subst, ⊎_elim, arith, length-drop, take-append-drop, length-take-le, get_or-drop, get_or-take, take_at, ext_get_or, drop_at, eq-eqb, le-leb}
 use native.Mathlib.Nat.{sub-zero}
 use lib.ListN.{length-replicate, get_or-replicate}
 use Rattle.std.proofs.lemmas.List.{get_or_append_left}
 use Rattle.std.proofs.lemmas.Bool.{both_ways, and_from}
 use Rattle.std.specs.List.{slice_get}
-use Rattle.games.proofs.Counting.{Still, rounds, count_within, still_holds, fails_from, fails_unheld, held_by_uncounted, sure_iff}
+use Rattle.games.proofs.Counting.{rounds, count_within, still_holds, fails_from, fails_unheld, held_by_uncounted, sure_iff}
 use Rattle.games.proofs.Reaching.{listing_reached, listing_more, more_listing}
 use Rattle.games.proofs.Listed.{listing_closed, listing_start, listing_some, with_new_front, reached_listed}
-use Rattle.games.specs.Counts.{within, has_count, CountIs}
+use Rattle.games.specs.Counts.{within, CountIs}
 use Rattle.games.specs.Held.{Holds}
 use Rattle.games.specs.Listing.{listed, listing, expanded, MoreThan, Closed}
 use Rattle.games.specs.Meaning.{Meaning, replies_at}
-use Rattle.games.specs.Ways.{Fails}
 use Rattle.lists.proofs.Tested.{by_false, number_le}
 use Rattle.settle.specs.Grown.{Grown}
-use Rattle.settle.specs.Outcome.{ListedAll, Answer, padded, good_lists, verdict_of, Outcome, Refuted, Refutes}
+use Rattle.settle.specs.Outcome.{ListedAll, Answer, good_lists, verdict_of, Outcome, Refuted, Refutes}
 use Rattle.settle.specs.declared.SettleFault.{SettleFault}
 use Rattle.settle.specs.declared.Settled.{Settled}
 use Rattle.settle.specs.declared.Verdict.{Verdict}

@@ -1,16 +1,13 @@
 -- Lists of codes that grow.
-use Rattle.std.proofs.Common.{◌≡◌, ℕ, zero, suc, ◌+◌, ◌<◌, ◌≤◌, Bool, true, false, cond, ◌&&◌, ◌||◌, eqb, ◌⊎◌, List, [], ◌∷◌, ◌++◌, length, get_or, take, drop, set, Some, None, Option, unwrap_or, sym, refl, ap, ◌∙◌, subst, inl, inr, ⊎_elim, append_assoc, append-nil, add-one, arith, length-append, length-set, length-take-le, take_all, get_or-set_other, take-suc-set}
+use Rattle.std.proofs.Common.{◌≡◌, ℕ, zero, suc, ◌+◌, ◌<◌, ◌≤◌, true, false, List, [], ◌∷◌, ◌++◌, length, get_or, take, drop, set, unwrap_or, sym, refl, ap, ◌∙◌, subst, append_assoc, append-nil, add-one, arith, length-append, length-set, length-take-le, get_or-set_other, take-suc-set}
 use lib.Seq.{split_at}
-use Rattle.std.proofs.lemmas.List.{take_more, drop_all}
-use Rattle.std.proofs.lemmas.Bool.{cond-true, cond-false, cond_both, cases_Bool, or_left, or_right, or_from, or_cases, or_parts, and_from, and_parts}
+use Rattle.std.proofs.lemmas.List.{take_more}
+use Rattle.std.proofs.lemmas.Bool.{cond-true, cond-false}
 use Rattle.std.specs.List.{slice_get}
 use Rattle.games.proofs.Listed.{with_new_append, with_new_longer}
-use Rattle.std.specs.Option.{option_map}
 use Rattle.games.specs.Listing.{listed, with_new}
-use Rattle.games.specs.Meaning.{Meaning, Challenge, replies_at, replies_of}
-use Rattle.lists.specs.Every.{any, every}
-use Rattle.settle.specs.Grown.{Grown, Grows}
-use Rattle.values.specs.Places.{first_place}
+use Rattle.games.specs.Meaning.{Challenge, replies_at, replies_of}
+use Rattle.settle.specs.Grown.{Grown}
 
 pub grown_then : (before mid after : List ℕ) (n n' : ℕ) (seen seen' : List ℕ) → Grown before mid n seen → Grown mid after n' seen' → n ≤ n' → Grown before after n' seen'
 grown_then before mid after n n' seen seen' a b l =

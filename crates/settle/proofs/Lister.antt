@@ -1,19 +1,12 @@
 -- The loop of the lister.
-use Rattle.std.proofs.Common.{◌≡◌, ℕ, zero, suc, ◌+◌, ◌<◌, ◌≤◌, Bool, true, false, cond, ◌&&◌, ◌||◌, eqb, ◌⊎◌, List, [], ◌∷◌, ◌++◌, length, get_or, take, drop, set, Some, None, Option, sym, refl, ap, ◌∙◌, subst, inl, inr, ⊎_elim, append_assoc, append-nil, add-one, arith, length-append, length-set, length-take-le, take_all, get_or-set_other, get_or-take, take-suc, take-suc-set, eq-eqb, eqb-true}
-use mathlib.Core.Bool.{false≢true}
-use lib.Seq.{take-append-le}
-use Rattle.std.proofs.lemmas.Bool.{cases_lt, cases_Bool, cond_both, cond-true, cond-false, or_left, or_right, or_cases, and_from, and_parts}
-use Rattle.std.proofs.lemmas.Option.{slice_get-get_or, slice_get_past}
+use Rattle.std.proofs.Common.{◌≡◌, ℕ, suc, ◌+◌, ◌<◌, ◌≤◌, List, [], ◌∷◌, length, get_or, take, set, Some, sym, ap, ◌∙◌, subst, add-one, arith, length-set, get_or-set_other, get_or-take, take-suc-set}
+use Rattle.std.proofs.lemmas.Option.{slice_get-get_or}
 use Rattle.std.specs.List.{slice_get}
-use Rattle.games.proofs.Listed.{with_new_longer, with_new_append}
-use Rattle.games.proofs.Members.{every_listed, every_from_listed}
-use Rattle.games.specs.Listing.{listed, with_new, listing, expanded}
-use Rattle.games.specs.Meaning.{Meaning, Challenge, replies_at}
-use Rattle.lists.proofs.Tested.{every_mono}
-use Rattle.lists.specs.Every.{any, every}
+use Rattle.games.specs.Listing.{with_new, listing}
+use Rattle.games.specs.Meaning.{Meaning, replies_at}
 use Rattle.games.proofs.Listed.{listing_mono, listing_some, listing_step, listing_still}
 use Rattle.settle.proofs.Growth.{grown_then, grown_same}
-use Rattle.settle.specs.Grown.{Grown, Grows}
+use Rattle.settle.specs.Grown.{Grown}
 
 module _ (m : Meaning) where
   -- the loop of the lister

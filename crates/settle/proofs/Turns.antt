@@ -1,17 +1,16 @@
 -- One round of settling.
-use Rattle.std.proofs.Common.{◌≡◌, ℕ, zero, suc, ◌+◌, ◌-◌, ◌<◌, ◌≤◌, Bool, true, false, cond, not, ◌&&◌, ◌||◌, eqb, ltb, ◌⊎◌, List, [], ◌∷◌, ◌++◌, length, get_or, take, set, Some, None, Option, sym, refl, ap, ◌∙◌, subst, inl, inr, ⊎_elim, add-one, arith, length-set, take_all, get_or-set_other, get_or-set_same, le-ltb, lt-ltb, eq-eqb, ne_eqb, eqb-true}
+use Rattle.std.proofs.Common.{◌≡◌, ℕ, zero, suc, ◌+◌, ◌-◌, ◌<◌, ◌≤◌, Bool, true, false, not, ◌&&◌, ◌||◌, eqb, ltb, ◌⊎◌, List, [], ◌∷◌, length, get_or, take, set, Some, None, Option, sym, refl, ap, ◌∙◌, subst, inl, inr, ⊎_elim, add-one, arith, length-set, take_all, get_or-set_other, get_or-set_same, le-ltb, lt-ltb, eq-eqb, ne_eqb, eqb-true}
 use mathlib.Core.Bool.{false≢true}
-use borrow.Author.Tests.{eqb_false}
-use Rattle.std.proofs.lemmas.Bool.{cases_lt, cases_eq, cases_Bool, cond-true, cond-false, or_left, or_right, or_from, or_cases, and_from, and_parts, and_left, and_right, and_cases, both_ways, not-true, or_parts}
+use Rattle.std.proofs.lemmas.Bool.{cases_lt, cases_Bool, cond-true, cond-false, or_left, or_right, or_cases, and_from, and_parts, and_right, both_ways, not-true, or_parts}
 use Rattle.std.proofs.lemmas.Option.{slice_get-get_or}
 use Rattle.games.proofs.Counting.{has_before, has_within, within_forces, Still, still_none, count_le}
 use Rattle.games.proofs.Members.{every_replies, every_listed, any_listed, place_none}
 use Rattle.games.specs.Counts.{forces, within, has_count, CountIs}
 use Rattle.games.specs.Listing.{listed, Closed}
-use Rattle.games.specs.Meaning.{Meaning, Challenge, replies_at}
-use Rattle.lists.proofs.Tested.{same_test, by_true, by_false, every_mono, any_mono, any_next, any_at, every_not}
+use Rattle.games.specs.Meaning.{Meaning, Challenge}
+use Rattle.lists.proofs.Tested.{same_test, by_true, any_at, every_not}
 use Rattle.lists.specs.Every.{any, every}
-use Rattle.settle.specs.Rounds.{tally, marked, count_beside, looked_up, due, RoundReady, RoundDone, AllClear, CountsAre}
+use Rattle.settle.specs.Rounds.{tally, marked, looked_up, due, RoundReady, RoundDone, AllClear, CountsAre}
 use Rattle.values.proofs.Searched.{place_good}
 use Rattle.values.specs.Places.{first_place}
 

@@ -1,4 +1,6 @@
 // SETTLE: every code that a match leads to, the count of each, and whether the match holds.
+#![tactic(auto)]
+
 ghost use Rattle.std.specs.Prelude.{◌≡◌, ℕ, length, replicate};
 ghost use Rattle.games.specs.Drawn.{drawn};
 ghost use Rattle.games.specs.LeftOnly.{left_only};

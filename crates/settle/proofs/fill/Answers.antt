@@ -1,4 +1,4 @@
-use Rattle.std.proofs.Common.{◌≡◌, ◌≤◌, length, replicate, sym, ap, ◌∙◌, arith, take_all}
+use Rattle.std.proofs.Common.{◌≡◌, length, replicate, sym, ap, ◌∙◌, arith, take_all}
 use Rattle.settle.proofs.Fills.{fill_step}
 use Rattle.settle.proofs.fill.Goals as goal
 

@@ -1,4 +1,4 @@
-use Rattle.std.proofs.Common.{◌≡◌, ◌<◌, eqb, length, take, ap, ◌∙◌, arith}
+use Rattle.std.proofs.Common.{◌<◌, eqb, length, take, ap, ◌∙◌, arith}
 use native.Mathlib.Nat.{sub-zero}
 use Rattle.games.proofs.Members.{place_any, place_none}
 use Rattle.settle.proofs.Growth.{add_listed, add_fresh, add_no_room}
@@ -17,7 +17,7 @@ returns-then-len-codes c =
     let xs = c.args.codes.now in
     let y = c.args.y in
     let n = c.args.len in
-    add_no_room xs n y c.if-len-codes.true (place_none (eqb y) (take n xs) (c.in-default.ensures ∙ ap (λ k. first_place (eqb y) (take k xs)) (sub-zero n)))
+    add_no_room xs n y c.if-len-codes.true (place_none (eqb y) (take n xs) (c.in_default.ensures ∙ ap (λ k. first_place (eqb y) (take k xs)) (sub-zero n)))
 
 pub returns : goal.returns
 returns c =
@@ -25,4 +25,4 @@ returns c =
     let y = c.args.y in
     let n = c.args.len in
     let l : n < length xs = omega (arith, c.requires) in
-    add_fresh xs n y l (place_none (eqb y) (take n xs) (c.in-default.ensures ∙ ap (λ k. first_place (eqb y) (take k xs)) (sub-zero n)))
+    add_fresh xs n y l (place_none (eqb y) (take n xs) (c.in_default.ensures ∙ ap (λ k. first_place (eqb y) (take k xs)) (sub-zero n)))

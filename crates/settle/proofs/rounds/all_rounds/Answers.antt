@@ -1,4 +1,4 @@
-use Rattle.std.proofs.Common.{◌≡◌, Bool, sym, ap, ◌∙◌, subst}
+use Rattle.std.proofs.Common.{subst}
 use Rattle.settle.proofs.Turns.{first_round, next_round, last_round}
 use Rattle.settle.specs.Rounds.{RoundDone}
 use Rattle.settle.proofs.rounds.all_rounds.Goals as goal

@@ -1,18 +1,17 @@
-use Rattle.std.proofs.Common.{◌≡◌, ℕ, ◌<◌, Bool, false, length, take, sym, ap, ◌∙◌, subst, take_all}
-use Rattle.std.specs.List.{slice_get}
+use Rattle.std.proofs.Common.{◌≡◌, ℕ, false, sym, ap, ◌∙◌, subst, take_all}
 use Rattle.games.specs.Meaning.{Challenge, replies_of}
 use Rattle.lists.proofs.Tested.{any_next, any_at, nth_here}
 use Rattle.lists.specs.Every.{every, any}
 use Rattle.settle.specs.Rounds.{marked}
 use Rattle.settle.proofs.rounds.forced.Goals as goal
 
-pub returns-then-all-marked : goal.returns-then-all-marked
-returns-then-all-marked g c =
+pub returns-then-all_marked : goal.returns-then-all_marked
+returns-then-all_marked g c =
     let cs = (g.M.Match.meaning c.args.game.now).at c.args.code in
     let p = marked c.args.codes.now c.args.counts.now c.args.n in
     let k = c.loop-k.k in
     let x = nth_here cs k (rw c.count-k-end.ensures at c.loop-k-test.true) in
-    sym (any_at (λ (a : Challenge ℕ). every p a.replies) cs k x.0 x.1 (ap (λ o. every p (replies_of o)) (sym x.1) ∙ sym c.all-marked.ensures ∙ c.if-all-marked.true))
+    sym (any_at (λ (a : Challenge ℕ). every p a.replies) cs k x.0 x.1 (ap (λ o. every p (replies_of o)) (sym x.1) ∙ sym c.all_marked.ensures ∙ c.if-all_marked.true))
 
 pub loop-k-preserved : goal.loop-k-preserved
 loop-k-preserved g c =
@@ -20,7 +19,7 @@ loop-k-preserved g c =
     let p = marked c.args.codes.now c.args.counts.now c.args.n in
     let k = c.loop-k.k in
     let x = nth_here cs k (rw c.count-k-end.ensures at c.loop-k-test.true) in
-    any_next (λ (a : Challenge ℕ). every p a.replies) cs k x.0 x.1 c.loop-k.invariant (ap (λ o. every p (replies_of o)) (sym x.1) ∙ sym c.all-marked.ensures ∙ c.if-all-marked.false)
+    any_next (λ (a : Challenge ℕ). every p a.replies) cs k x.0 x.1 c.loop-k.invariant (ap (λ o. every p (replies_of o)) (sym x.1) ∙ sym c.all_marked.ensures ∙ c.if-all_marked.false)
 
 pub returns : goal.returns
 returns g c =
