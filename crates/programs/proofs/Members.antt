@@ -1,7 +1,6 @@
 -- Membership in lists that are mapped or filtered.
 use Rattle.std.proofs.Common.{◌≡◌, Bool, true, false, cond, List, [], ◌∷◌, map, filter, sym, refl, ap, ◌∙◌, subst, inl, inr}
-use mathlib.Core.Bool.{false≢true}
-use Rattle.std.proofs.lemmas.Bool.{and_parts, cond-true, cond-false}
+use Rattle.std.proofs.lemmas.Bool.{and_parts, cond-true}
 use Rattle.lists.specs.Every.{every}
 use Rattle.programs.specs.Places.{In}
 

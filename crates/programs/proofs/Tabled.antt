@@ -1,5 +1,5 @@
 -- The program that a page tables moves as the page does.
-use Rattle.std.proofs.Common.{◌≡◌, ℕ, zero, suc, ◌+◌, ◌<◌, ◌≤◌, Bool, true, false, cond, ◌&&◌, eqb, ltb, leb, ◌⊎◌, List, [], ◌∷◌, map, length, get_or, filter, sym, refl, ap, ◌∙◌, subst, inl, inr, ⊎_elim, arith}
+use Rattle.std.proofs.Common.{◌≡◌, ℕ, zero, suc, ◌+◌, ◌<◌, Bool, true, false, ◌&&◌, eqb, ltb, leb, List, [], ◌∷◌, map, length, get_or, sym, refl, ap, ◌∙◌, subst, inl, inr, arith}
 use mathlib.Core.List.{head-eq_of_cons-eq, tail-eq_of_cons-eq, nil≢cons, cons≢nil}
 use lib.ListN.{length-map}
 use Rattle.std.proofs.lemmas.Bool.{and_parts, eq-eqb, ne_eqb, eqb-true, ltb-true, false≢true}
@@ -9,9 +9,9 @@ use Rattle.pages.specs.declared.Source.TheVariants.{Kept, Taken}
 use Rattle.pages.specs.declared.LineKind.{LineKind}
 use Rattle.pages.specs.declared.LineKind.TheVariants.{Take, Show}
 use Rattle.pages.specs.Model.{LineModel, PageModel}
-use Rattle.pages.specs.Formed.{slots_at, source_stands, shown_stands, line_stands, line_formed, screens_formed, lines_formed, start_formed, well_formed}
+use Rattle.pages.specs.Formed.{slots_at, source_stands, shown_stands, line_stands, line_formed, screens_formed, lines_formed, well_formed}
 use Rattle.programs.specs.Places.{In, Place, Act, Moves, Shaped, after, carry, moved_by, shows, value_of}
-use Rattle.programs.specs.Programs.{Expr, var, val, Behaviour, input, output, sum, call, Summands, none, more, Among, at, bind, replace, replace_each, one, several, Clause, Step, OUT, IN, SUM, ID}
+use Rattle.programs.specs.Programs.{Expr, var, val, Behaviour, input, output, sum, call, Among, at, bind, replace, replace_each, one, several, Clause, Step, OUT, IN, SUM, ID}
 use Rattle.programs.specs.Tables.{lines_of, numbers, source, acting, summand, summands, clauses, program, MovesExactly}
 use Rattle.programs.proofs.Members.{map_map, map_same_in, of_kept, in_kept, every_in}
 

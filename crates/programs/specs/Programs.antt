@@ -1,5 +1,5 @@
 -- Behaviour expressions with input, output, finite sums and identifiers, and how programs move by the rules OUT, IN, SUM and ID.
-use Rattle.std.specs.Prelude.{◌≡◌, ℕ, Bool, true, false, cond, ◌⊎◌, List, [], ◌∷◌, map, length, ◌==◌}
+use Rattle.std.specs.Prelude.{◌≡◌, ℕ, true, false, cond, ◌⊎◌, List, [], ◌∷◌, map, length, ◌==◌}
 use Rattle.pages.specs.declared.Port.{Port}
 use Rattle.programs.specs.Places.{Act}
 

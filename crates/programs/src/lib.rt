@@ -1,4 +1,6 @@
 // Pages as programs: how a page moves with values of any type, and the program that it tables.
+#![tactic(auto)]
+
 ghost use Rattle.std.specs.Prelude.{◌≡◌};
 ghost use Rattle.std.specs.List.{slice_get};
 ghost use Rattle.std.specs.Option.{option_map};
