@@ -1,9 +1,9 @@
 -- A pair comes back from its code.
-use Rattle.std.proofs.Common.{◌≡◌, ℕ, ◌+◌, ◌*◌, ◌/◌, ◌%◌, ◌^◌, ◌<◌, ◌≤◌, Bool, true, false, cond, not, ◌&&◌, T, eqb, ltb, ◌⊎◌, List, [], ◌∷◌, ◌++◌, map, length, get_or, filter, sym, refl, ap, ◌∙◌, subst, inl, inr, arith, eqb→eq, ltb→lt, lt→ltb, length-append}
+use Rattle.std.proofs.Common.{◌≡◌, ℕ, ◌+◌, ◌*◌, ◌/◌, ◌%◌, ◌^◌, ◌<◌, ◌≤◌, Bool, true, false, cond, not, ◌&&◌, T, eqb, List, [], ◌∷◌, ◌++◌, map, length, filter, sym, refl, ap, ◌∙◌, subst, inl, inr, arith, eqb→eq, ltb→lt, lt→ltb, length-append}
 use lib.ListN.{length-map}
 use lib.Dec.{eqb_refl}
 use Rattle.games.specs.Counts.{within}
-use Rattle.games.specs.Meaning.{Challenge, Challenges}
+use Rattle.games.specs.Meaning.{Challenge}
 use Rattle.games.specs.declared.Side.{Side}
 use Rattle.games.specs.declared.Side.TheVariants.{Left, Right}
 use Rattle.pages.specs.Model.{PageModel, LineModel}
@@ -14,10 +14,10 @@ use Rattle.twins.proofs.Lists.{in_left, in_right, of_map, of_kept}
 use Rattle.twins.proofs.Logic.{and_both, and_make, eq_eqb, eqb_false}
 use Rattle.twins.proofs.Names.{numbers}
 use Rattle.twins.proofs.Naming.{normal_again, names_small}
-use Rattle.twins.specs.Codes.{four, code, names_of, pair_of, Few, Small, Decodes, same_list, usable, recoded, coded, CodesCount}
+use Rattle.twins.specs.Codes.{four, code, names_of, Few, Small, Decodes, same_list, usable, recoded, coded, CodesCount}
 use Rattle.twins.specs.Fits.{Fits, Sized, arity}
 use Rattle.twins.specs.Naming.{name}
-use Rattle.twins.specs.Pairs.{Pair, Rule, normal, after_both, meets, fresh, replies, lines_of, side_of, PairChallenge}
+use Rattle.twins.specs.Pairs.{Pair, Rule, after_both, meets, fresh, replies, side_of}
 use Rattle.twins.specs.Positions.{meaning}
 
 abbrev pub used : ℕ → Bool

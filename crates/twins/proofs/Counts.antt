@@ -1,21 +1,15 @@
 -- Counts, and what a challenger can do.
-use Rattle.std.proofs.Common.{◌≡◌, ℕ, zero, suc, ◌+◌, ◌<◌, ◌≤◌, Bool, true, false, cond, not, ◌&&◌, ◌||◌, T, eqb, ◌⊎◌, List, [], ◌∷◌, ◌++◌, map, filter, sym, refl, ap, ◌∙◌, subst, inl, inr, ⊎_elim, arith, eqb→eq, T_not}
+use Rattle.std.proofs.Common.{◌≡◌, ℕ, zero, suc, ◌+◌, ◌<◌, Bool, true, false, not, ◌&&◌, ◌||◌, T, List, [], ◌∷◌, map, sym, refl, ap, ◌∙◌, subst, inl, inr, ⊎_elim, arith, T_not}
 use lib.Dec.{not_T}
 use Rattle.games.specs.Counts.{forces, within, has_count}
-use Rattle.games.specs.LeftOnly.{is_left, lefts}
 use Rattle.games.specs.Meaning.{Challenge, Challenges}
-use Rattle.games.specs.declared.Side.{Side}
-use Rattle.games.specs.declared.Side.TheVariants.{Left, Right}
 use Rattle.lists.specs.Every.{every, any}
-use Rattle.pages.specs.Model.{PageModel, LineModel}
 use Rattle.programs.specs.Places.{In}
 use Rattle.twins.proofs.Games.{wins_more, wins_or_survives}
-use Rattle.twins.proofs.Lists.{in_left, in_right, in_either, in_map, of_map, of_kept, in_kept}
-use Rattle.twins.proofs.Logic.{and_both, of_all, of_any, to_any, or_either, or_left, or_right}
+use Rattle.twins.proofs.Logic.{and_both, of_all, of_any, to_any, or_either, or_right}
 use Rattle.twins.specs.Codes.{recoded}
-use Rattle.twins.specs.Games.{Game, Held, Wins, Survives, Follows, Way, Sure, Exactly}
-use Rattle.twins.specs.Pairs.{Pair, Rule, both, left_only, asks, Match, lines_of, replies}
-use Rattle.twins.specs.Positions.{game_of, challenges_of, meaning}
+use Rattle.twins.specs.Games.{Game, Held, Wins, Survives, Way, Sure, Exactly}
+use Rattle.twins.specs.Positions.{game_of}
 
 -- a test that not every pass fails at one
 pub not_all : {A : Type 0} (t : A → Bool) (xs : List A) → T (not (every t xs)) → (x : A) × In x xs × T (not (t x))

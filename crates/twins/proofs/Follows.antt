@@ -1,18 +1,17 @@
 -- The match at places follows the match at pairs.
-use Rattle.std.proofs.Common.{◌≡◌, ℕ, ◌<◌, Bool, true, false, ◌&&◌, T, eqb, ◌⊎◌, List, [], ◌∷◌, ◌++◌, map, filter, sym, refl, ap, ◌∙◌, subst, inl, inr, ⊎_elim, arith, eqb→eq}
+use Rattle.std.proofs.Common.{◌≡◌, ℕ, ◌<◌, Bool, T, eqb, List, ◌∷◌, ◌++◌, map, filter, sym, refl, ap, ◌∙◌, subst, inl, inr, ⊎_elim, arith, eqb→eq}
 use mathlib.Core.Bool.{beq}
-use lib.Dec.{eqb_refl}
 use Rattle.games.specs.declared.Side.{Side}
 use Rattle.games.specs.declared.Side.TheVariants.{Left, Right}
 use Rattle.pages.specs.declared.Port.{Port}
 use Rattle.twins.proofs.Logic.{and_both, and_make, beq_eq, beq_refl, eq_eqb}
 use Rattle.pages.specs.Model.{LineModel, PageModel}
-use Rattle.programs.specs.Places.{In, Place, Act, Moves, after, carry, moved, shows}
-use Rattle.twins.proofs.Lists.{in_left, in_right, in_either, in_map, of_map, map_append, in_moved, moved_map, moved_again, below_above, of_kept, in_kept}
-use Rattle.twins.proofs.Steps.{value, named, Steady, stands_steady, apart_steady, step}
-use Rattle.twins.specs.Games.{Game, Follows}
-use Rattle.twins.specs.Pairs.{Pair, after_both, fresh, above, meets, Rule, asks, Match, PairChallenge, replies, lines_of, side_of}
-use Rattle.twins.specs.Twins.{Places, Instance, Stands, Apart, PlaceMatch, PlaceChallenge, Alike, Equivalence, place_at, other}
+use Rattle.programs.specs.Places.{In, Place, Act, Moves, after, moved, shows}
+use Rattle.twins.proofs.Lists.{in_left, in_right, in_map, of_map, map_append, in_moved, moved_map, moved_again, below_above, of_kept, in_kept}
+use Rattle.twins.proofs.Steps.{value, named, Steady, stands_steady, step}
+use Rattle.twins.specs.Games.{Follows}
+use Rattle.twins.specs.Pairs.{Pair, after_both, fresh, above, meets, Rule, asks, Match, PairChallenge, side_of}
+use Rattle.twins.specs.Twins.{Places, Instance, Stands, PlaceMatch, Equivalence, place_at}
 
 -- what it says that two lines meet
 pub record Meet (p : Pair) (l m : LineModel) : Type 0 where

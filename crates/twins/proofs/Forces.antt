@@ -1,5 +1,5 @@
 -- The match at pairs follows the match at places, where names stand for different values and there are enough values.
-use Rattle.std.proofs.Common.{◌≡◌, ℕ, zero, suc, ◌+◌, ◌<◌, ◌≤◌, Bool, true, false, cond, not, T, eqb, ◌⊎◌, List, [], ◌∷◌, ◌++◌, map, length, get_or, filter, sym, refl, ap, ◌∙◌, subst, inl, inr, ⊎_elim, arith, eqb→eq, T_not, length-append}
+use Rattle.std.proofs.Common.{◌≡◌, ℕ, zero, suc, ◌<◌, ◌≤◌, Bool, true, false, cond, not, T, eqb, List, [], ◌∷◌, ◌++◌, map, length, get_or, filter, sym, refl, ap, ◌∙◌, subst, inl, inr, ⊎_elim, arith, eqb→eq, T_not, length-append}
 use lib.ListN.{length-map}
 use Rattle.games.specs.declared.Side.{Side}
 use Rattle.games.specs.declared.Side.TheVariants.{Left, Right}
@@ -8,15 +8,14 @@ use Rattle.pages.specs.declared.LineKind.{LineKind}
 use Rattle.pages.specs.declared.LineKind.TheVariants.{Take, Show}
 use Rattle.pages.specs.Formed.{shown_stands}
 use Rattle.pages.specs.Model.{LineModel, PageModel}
-use Rattle.programs.specs.Places.{moved_by, In, Place, Act, Moves, after, carry, moved, value_of, shows}
-use Rattle.twins.proofs.Follows.{Meet, meets→, →meets, names_below, left_moved, right_moved, left_name, right_name}
-use Rattle.twins.proofs.Lists.{in_left, in_right, in_either, in_map, of_map, in_get_or, in_moved, moved_again, of_kept, in_kept}
-use Rattle.twins.proofs.Logic.{eq_eqb}
+use Rattle.programs.specs.Places.{moved_by, In, Act, Moves, after, moved, value_of, shows}
+use Rattle.twins.proofs.Follows.{Meet, →meets, left_moved, right_moved, left_name, right_name}
+use Rattle.twins.proofs.Lists.{in_left, in_right, in_map, in_get_or, in_moved, moved_again, of_kept, in_kept}
 use Rattle.twins.proofs.Steps.{value, named, apart_steady, step}
-use Rattle.twins.specs.Fits.{Fits, LineFits, Shaped, arity}
-use Rattle.twins.specs.Games.{Game, Follows}
+use Rattle.twins.specs.Fits.{Fits, Shaped, arity}
+use Rattle.twins.specs.Games.{Follows}
 use Rattle.twins.specs.Pairs.{Pair, after_both, fresh, meets, Rule, asks, Match, replies, lines_of, side_of}
-use Rattle.twins.specs.Twins.{Places, Instance, Apart, Sharp, Different, PlaceMatch, Alike, Equivalence, place_at, other}
+use Rattle.twins.specs.Twins.{Places, Instance, Apart, Sharp, Different, PlaceMatch, Alike, Equivalence}
 
 pub in_range : {A : Type 0} (xs : List A) (k : ℕ) (x : A) → k < length xs → In (get_or xs k x) xs
 in_range [] zero x h = absurd (omega arith)

@@ -1,5 +1,5 @@
 -- What follows of every game.
-use Rattle.std.proofs.Common.{◌≡◌, ℕ, zero, suc}
+use Rattle.std.proofs.Common.{ℕ, zero, suc}
 use Rattle.twins.specs.Games.{Game, Held, Wins, Survives, Follows}
 
 pub held_survives : {X : Type 0} (G : Game X) (S : X → Type 0) → Held G S → (n : ℕ) (x : X) → S x → Survives G n x

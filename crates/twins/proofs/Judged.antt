@@ -1,5 +1,5 @@
 -- The match of two pages as lists is the match of their lines; so what counts say holds at places.
-use Rattle.std.proofs.Common.{◌≡◌, ℕ, zero, suc, Bool, not, T, ◌⊎◌, List, ◌++◌, map, filter, sym, refl, ap, subst, inl, inr, ⊎_elim}
+use Rattle.std.proofs.Common.{◌≡◌, zero, suc, Bool, not, T, ◌⊎◌, List, ◌++◌, map, filter, sym, refl, ap, subst, inl, inr, ⊎_elim}
 use Rattle.pages.specs.Model.{PageModel, LineModel}
 use Rattle.programs.specs.Places.{In, Place}
 use Rattle.games.specs.declared.Side.TheVariants.{Left, Right}

@@ -1,12 +1,12 @@
 -- Membership, and the naturality of what pages do to lists of values.
-use Rattle.std.proofs.Common.{◌≡◌, ℕ, zero, suc, ◌<◌, ◌≤◌, max, Bool, true, false, cond, not, T, ◌⊎◌, List, [], ◌∷◌, ◌++◌, map, length, get_or, filter, sym, refl, ap, ◌∙◌, subst, inl, inr, ⊎_elim, arith}
+use Rattle.std.proofs.Common.{◌≡◌, ℕ, zero, suc, ◌<◌, Bool, true, false, cond, T, ◌⊎◌, List, [], ◌∷◌, ◌++◌, map, get_or, filter, sym, refl, ap, ◌∙◌, subst, inl, inr, ⊎_elim, arith}
 use lib.ListN.{get_or-map}
 use Rattle.pages.specs.Model.{LineModel}
 use Rattle.pages.specs.declared.Source.{Source}
 use Rattle.pages.specs.declared.Source.TheVariants.{Kept, Taken}
 use Rattle.pages.specs.declared.LineKind.{LineKind}
 use Rattle.pages.specs.declared.LineKind.TheVariants.{Take, Show}
-use Rattle.programs.specs.Places.{moved_by, In, value_of, carry, moved, shows}
+use Rattle.programs.specs.Places.{moved_by, In, value_of, carry, moved}
 use Rattle.twins.specs.Pairs.{above}
 
 pub in_left : {A : Type 0} (x : A) (xs ys : List A) → In x xs → In x (xs ++ ys)

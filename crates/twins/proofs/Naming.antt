@@ -1,16 +1,12 @@
 -- The laws of normal naming.
-use Rattle.std.proofs.Common.{◌≡◌, ℕ, zero, suc, ◌+◌, ◌<◌, ◌≤◌, Bool, true, false, cond, not, ◌||◌, T, eqb, ◌⊎◌, List, [], ◌∷◌, ◌++◌, map, length, get_or, take, set, filter, sym, refl, ap, ◌∙◌, subst, inl, inr, ⊎_elim, append-nil, arith, eqb→eq, length-append, length-take}
-use Rattle.std.proofs.lemmas.List.{take_all, take_more, take_more_set, get_or-take}
-use lib.Dec.{eqb_refl}
+use Rattle.std.proofs.Common.{◌≡◌, ℕ, suc, ◌≤◌, Bool, true, false, cond, not, ◌||◌, eqb, List, [], ◌∷◌, ◌++◌, map, length, filter, sym, refl, ap, ◌∙◌, inl, inr, arith}
 use Rattle.lists.specs.Every.{any}
 use Rattle.programs.proofs.Members.{map_same_in}
 use Rattle.programs.specs.Places.{In}
-use Rattle.twins.proofs.Forces.{in_range}
-use Rattle.twins.proofs.Lists.{in_left, in_right, in_map, map_map, map_append, of_kept}
+use Rattle.twins.proofs.Lists.{in_left, in_right, map_map, map_append, of_kept}
 use Rattle.twins.proofs.Names.{index_below, in_firsts, name_test, numbers}
 use Rattle.twins.specs.Naming.{firsts, index, name}
 use Rattle.twins.specs.NamingLaws.{PatternNames, NormalAgain, NamesSmall}
-use Rattle.twins.specs.Pairs.{Pair, normal}
 use Rattle.twins.specs.Twins.{Equivalence}
 
 pub kept_map : {A B : Type 0} (f : A → B) (t : B → Bool) (xs : List A) → filter t (map f xs) ≡ map f (filter (λ x. t (f x)) xs)

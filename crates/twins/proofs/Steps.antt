@@ -1,8 +1,7 @@
 -- One step of both places keeps the names that stand for their values.
-use Rattle.std.proofs.Common.{◌≡◌, ℕ, Bool, true, false, T, eqb, ◌⊎◌, List, [], ◌∷◌, ◌++◌, map, sym, refl, ap, ◌∙◌, subst, inl, inr, ⊎_elim}
+use Rattle.std.proofs.Common.{◌≡◌, ℕ, Bool, T, eqb, List, ◌∷◌, ◌++◌, map, sym, refl, ap, ◌∙◌, subst, inl, inr, ⊎_elim}
 use Rattle.pages.specs.Model.{LineModel}
-use Rattle.pages.specs.declared.Source.{Source}
-use Rattle.programs.specs.Places.{In, Place, after, carry, moved}
+use Rattle.programs.specs.Places.{In, after, carry, moved}
 use Rattle.twins.proofs.Lists.{in_left, in_right, in_either, in_map, of_map, map_map, map_append, carry_map, in_carry}
 use Rattle.twins.proofs.Names.{name_one}
 use Rattle.twins.specs.Naming.{name}

@@ -1,14 +1,14 @@
 -- Ways of challenging as functions.
-use Rattle.std.proofs.Common.{◌≡◌, ℕ, zero, suc, ◌+◌, ◌-◌, ◌<◌, ◌≤◌, Bool, true, false, cond, not, ◌&&◌, ◌||◌, T, ◌⊎◌, List, [], ◌∷◌, length, sym, refl, ap, ◌∙◌, subst, inl, inr, ⊎_elim, arith}
+use Rattle.std.proofs.Common.{◌≡◌, ℕ, zero, suc, ◌+◌, ◌-◌, Bool, true, false, cond, not, ◌||◌, T, List, [], ◌∷◌, length, sym, refl, ap, ◌∙◌, subst, inl, inr, ⊎_elim, arith}
 use mathlib.Core.Option.{Option, some, none}
-use Rattle.games.specs.Counts.{forces, within, has_count}
+use Rattle.games.specs.Counts.{forces, within}
 use Rattle.games.specs.Meaning.{Challenge, Challenges}
 use Rattle.lists.specs.Every.{every, any}
 use Rattle.programs.specs.Places.{In}
 use Rattle.twins.proofs.Counts.{count_exactly, survives_to, below}
 use Rattle.twins.proofs.Games.{wins_or_survives}
 use Rattle.twins.proofs.Logic.{and_both, of_all, to_all, of_any, to_any, or_either, or_left, or_right}
-use Rattle.twins.specs.Games.{Game, Wins, Survives, Strategy, SureBy}
+use Rattle.twins.specs.Games.{Game, Wins, Strategy, SureBy}
 use Rattle.twins.specs.Positions.{game_of, CountsExact}
 
 pub sure_wins : {X : Type 0} (G : Game X) (s : Strategy G) (n : ℕ) (h : List X) (x : X) → SureBy G s n h x → Wins G n x

@@ -1,25 +1,19 @@
 -- What the verdicts mean, from what one step of both places does.
-use Rattle.std.proofs.Common.{◌≡◌, ℕ, zero, suc, ◌+◌, ◌<◌, ◌≤◌, Bool, true, false, cond, not, ◌&&◌, ◌||◌, T, eqb, ◌⊎◌, List, [], ◌∷◌, ◌++◌, map, length, sym, refl, ap, ◌∙◌, subst, inl, inr, ⊎_elim, arith, eqb→eq}
-use lib.Dec.{eqb_refl}
+use Rattle.std.proofs.Common.{◌≡◌, ℕ, Bool, not, ◌||◌, T, eqb, List, [], ◌∷◌, ◌++◌, map, length, sym, refl, ap, ◌∙◌, subst, arith, eqb→eq}
 use lib.ListN.{length-map}
-use Rattle.games.specs.declared.Side.{Side}
 use Rattle.games.specs.declared.Side.TheVariants.{Left, Right}
 use Rattle.lists.specs.Every.{every, any}
-use Rattle.pages.specs.Model.{LineModel, PageModel}
-use Rattle.programs.specs.Places.{In, Place, Act, Moves}
+use Rattle.pages.specs.Model.{PageModel}
+use Rattle.programs.specs.Places.{In, Place}
 use Rattle.twins.proofs.Follows.{places_follow}
 use Rattle.twins.proofs.Forces.{pairs_follow}
-use Rattle.twins.proofs.Games.{held_survives, wins_unheld, follows_survives, follows_wins, follows_held}
-use Rattle.twins.proofs.Lists.{in_map, of_map, map_map, map_append}
+use Rattle.twins.proofs.Games.{wins_unheld, follows_survives, follows_wins, follows_held}
 use Rattle.twins.proofs.Logic.{and_both, and_make, eq_eqb, of_all, to_all, of_any, to_any, implies, implied}
-use Rattle.twins.proofs.Names.{name_one}
 use Rattle.twins.proofs.Steps.{value, named}
-use Rattle.twins.specs.Fits.{Fits, Shaped}
-use Rattle.twins.specs.Games.{Game, Held, Wins, Survives, Follows}
-use Rattle.twins.specs.Naming.{name}
+use Rattle.twins.specs.Games.{Held}
 use Rattle.twins.specs.Pairs.{Pair, Rule, asks, Match, both, left_only}
-use Rattle.twins.specs.Twins.{Places, Instance, Stands, Apart, Sharp, Different, PlaceMatch, Alike, Equivalence, beside, agree, describes}
-use Rattle.twins.specs.Verdicts.{Answers, Related, HeldRelates, SurvivesEverywhere, WinsEverywhere, WinsUnrelates}
+use Rattle.twins.specs.Twins.{Places, Instance, Stands, Sharp, PlaceMatch, Equivalence, beside, agree, describes}
+use Rattle.twins.specs.Verdicts.{Answers, HeldRelates, SurvivesEverywhere, WinsEverywhere, WinsUnrelates}
 
 module _ {V : Type 0} where
   pub beside_values : (vs : List V) (ns : List ℕ) → length ns ≡ length vs → vs ≡ map value (beside vs ns)

@@ -1,5 +1,5 @@
 -- The laws of normal naming.
-use Rattle.std.specs.Prelude.{◌≡◌, ℕ, ◌<◌, Bool, List, ◌++◌, map, length, nat_eq}
+use Rattle.std.specs.Prelude.{◌≡◌, ℕ, ◌<◌, Bool, List, map, length, nat_eq}
 use Rattle.programs.specs.Places.{In}
 use Rattle.twins.specs.Naming.{name}
 use Rattle.twins.specs.Pairs.{normal}

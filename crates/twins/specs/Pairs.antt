@@ -1,5 +1,5 @@
 -- Pairs of screens with names for values, and the game of two pages at pairs.
-use Rattle.std.specs.Prelude.{◌≡◌, ℕ, suc, max, Bool, true, false, ◌&&◌, T, List, [], ◌∷◌, ◌++◌, map, filter, ◌==◌, nat_eq}
+use Rattle.std.specs.Prelude.{ℕ, suc, max, Bool, true, false, ◌&&◌, T, List, [], ◌∷◌, ◌++◌, map, filter, ◌==◌, nat_eq}
 use Rattle.std.specs.Bool.{beq}
 use Rattle.pages.specs.Model.{LineModel, PageModel}
 use Rattle.programs.specs.Places.{In, carry, moved, shows}

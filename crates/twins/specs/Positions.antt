@@ -1,5 +1,5 @@
 -- The game of two pages at pairs, by lists of challenges.
-use Rattle.std.specs.Prelude.{◌≡◌, ℕ, ◌<◌, Bool, T, List, [], ◌++◌, map}
+use Rattle.std.specs.Prelude.{ℕ, ◌<◌, T, List, [], ◌++◌, map}
 use Rattle.pages.specs.Model.{PageModel}
 use Rattle.programs.specs.Places.{In}
 use Rattle.games.specs.declared.Side.TheVariants.{Left, Right}

@@ -1,5 +1,5 @@
 -- The game of two pages at places, with real values, and what it has to do with pairs.
-use Rattle.std.specs.Prelude.{◌≡◌, ℕ, Bool, true, false, not, ◌&&◌, ◌||◌, T, List, [], ◌∷◌, ◌++◌, map, length, ◌==◌}
+use Rattle.std.specs.Prelude.{◌≡◌, ℕ, Bool, not, ◌&&◌, ◌||◌, T, List, [], ◌∷◌, ◌++◌, map, length, ◌==◌}
 use Rattle.lists.specs.Every.{every}
 use Rattle.pages.specs.Model.{PageModel}
 use Rattle.programs.specs.Places.{In, Place, Act, Moves}
