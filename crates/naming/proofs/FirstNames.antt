@@ -1,8 +1,7 @@
 -- Naming one value more, over any equivalence.
-use Rattle.std.proofs.Common.{◌≡◌, ℕ, zero, suc, ◌+◌, ◌<◌, ◌≤◌, Bool, true, false, cond, not, ◌||◌, T, ltb, ◌⊎◌, List, [], ◌∷◌, ◌++◌, map, length, get_or, take, Some, None, Option, sym, refl, ap, ◌∙◌, subst, inl, inr, ⊎_elim, append-nil, arith, length-append, length-take-le, take_all, MatchOption}
+use Rattle.std.proofs.Common.{◌≡◌, ℕ, zero, suc, ◌+◌, ◌<◌, ◌≤◌, Bool, true, false, cond, ◌||◌, T, List, [], ◌∷◌, ◌++◌, map, length, get_or, Some, None, Option, sym, refl, ap, ◌∙◌, subst, append-nil, arith, length-append, MatchOption}
 use lib.ListN.{length-map}
-use Rattle.std.proofs.lemmas.List.{take_more}
-use Rattle.std.proofs.lemmas.Bool.{lt-ltb, cond-true}
+use Rattle.std.proofs.lemmas.Bool.{cond-true}
 use Rattle.lists.specs.Every.{any}
 use Rattle.programs.specs.Places.{In}
 use Rattle.programs.proofs.Members.{map_same_in}
@@ -17,10 +16,10 @@ use Rattle.values.specs.Places.{first_place}
 use Rattle.values.proofs.Searched.{place_good, place_none}
 use Rattle.naming.specs.Names.{names, next_name, next_after}
 
-pub get_d_map : {A : Type 0} (f : A → ℕ) (xs : List A) (j : ℕ) (d : A) → j < length xs → get_or (map f xs) j 0 ≡ f (get_or xs j d)
-get_d_map f [] j d h = absurd (omega arith)
-get_d_map f (x ∷ xs) zero d h = refl
-get_d_map f (x ∷ xs) (suc j) d h = get_d_map f xs j d (omega arith)
+pub get_or_map : {A : Type 0} (f : A → ℕ) (xs : List A) (j : ℕ) (d : A) → j < length xs → get_or (map f xs) j 0 ≡ f (get_or xs j d)
+get_or_map f [] j d h = absurd (omega arith)
+get_or_map f (x ∷ xs) zero d h = refl
+get_or_map f (x ∷ xs) (suc j) d h = get_or_map f xs j d (omega arith)
 
 module _ {A : Type 0} (e : A → A → Bool) (eqv : Equivalence e) where
   index_met : (x : A) (ms ns : List A) → T (any (λ y. e x y) ms) → index e x (ms ++ ns) ≡ index e x ms
@@ -88,7 +87,7 @@ module _ {A : Type 0} (e : A → A → Bool) (eqv : Equivalence e) where
       let (k, s) = place_good (e x) xs j x q in
       let there = in_range xs j x k in
       let t : T (e x (get_or xs j x)) = subst T (sym s) tt in (
-        ap (λ (l : List ℕ). get_or l j 0) a ∙ get_d_map (name e xs) xs j x k ∙ sym (name_kept xs x (get_or xs j x) there)
+        ap (λ (l : List ℕ). get_or l j 0) a ∙ get_or_map (name e xs) xs j x k ∙ sym (name_kept xs x (get_or xs j x) there)
             ∙ sym (index_alike e eqv x (get_or xs j x) t (firsts e (xs ++ (x ∷ [])))),
         b ∙ sym (next_same xs x (to_any (λ z. e z x) xs (get_or xs j x) there (eqv.back x (get_or xs j x) t))),
       )

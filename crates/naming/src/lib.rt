@@ -1,4 +1,6 @@
 // The names of values of any kind, in order of first occurrence.
+#![tactic(auto)]
+
 ghost use Rattle.std.specs.Prelude.{◌≡◌, ◌+◌, ◌<◌, ◌≤◌, [], ◌∷◌, ◌++◌, map, length, MatchOption};
 ghost use Rattle.std.specs.Option.{option_map};
 ghost use Rattle.lists.specs.Held.{held};

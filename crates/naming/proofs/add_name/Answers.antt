@@ -1,10 +1,10 @@
-use Rattle.std.proofs.Common.{◌≡◌, ℕ, ◌<◌, List, [], ◌∷◌, ◌++◌, map, length, get_or, sym, ap, ◌∙◌, subst, arith, MatchOption}
+use Rattle.std.proofs.Common.{ℕ, ◌<◌, List, [], ◌∷◌, ◌++◌, map, length, get_or, sym, ap, ◌∙◌, subst, arith, MatchOption}
 use Rattle.std.proofs.lemmas.Bool.{lt-ltb, cond-true}
 use Rattle.lists.specs.Held.{held}
 use Rattle.pages.specs.declared.Name.{Name}
 use Rattle.twins.proofs.Lists.{map_append}
 use Rattle.naming.specs.Names.{number, next_name, next_after}
-use Rattle.naming.proofs.FirstNames.{get_d_map}
+use Rattle.naming.proofs.FirstNames.{get_or_map}
 use Rattle.naming.proofs.add_name.Goals as goal
 
 pub returns-in-Some : goal.returns-in-Some
@@ -17,7 +17,7 @@ returns-in-Some c =
       named =
           ap (map number) (c.push.ensures.held ∙ cond-true _ _ _ (lt-ltb (length before) 8 c.requires.0)) ∙ map_append number before (_ ∷ [])
           ∙ ap (λ (n : ℕ). map number before ++ (n ∷ []))
-          (ap (λ (l : List Name). number (get_or l j _)) c.as-slice.ensures ∙ sym (get_d_map number before j _ there) ∙ ap (next_name (map number before) next) (sym c.in-Some.is));
+          (ap (λ (l : List Name). number (get_or l j _)) c.as_slice.ensures ∙ sym (get_or_map number before j _ there) ∙ ap (next_name (map number before) next) (sym c.in-Some.is));
       next = ap (next_after next) (sym c.in-Some.is);
     }
 

@@ -1,11 +1,11 @@
-use Rattle.std.proofs.Common.{length, None, sym, ap, ◌∙◌, arith}
+use Rattle.std.proofs.Common.{length, sym, ap, ◌∙◌, arith}
 use Rattle.values.specs.Places.{first_place}
 use Rattle.values.proofs.Searched.{beyond, place_good}
 use Rattle.naming.proofs.Joined.{or_else, joined}
 use Rattle.naming.proofs.met.Goals as goal
 
-pub overflow-add-result : goal.overflow-add-result
-overflow-add-result g c =
+pub overflow_add-result : goal.overflow_add-result
+overflow_add-result g c =
     let p = g.K.Kind.same c.args.wanted.now in
     let h = (place_good p c.args.back.now c.in-Some-position.j c.args.wanted.now c.in-Some-position.ensures).0 in
     omega (arith, h, c.requires)
