@@ -1,5 +1,5 @@
 -- Pairs in normal naming have few and small names, and codes below 2^42.
-use Rattle.std.proofs.Common.{◌≡◌, ℕ, ◌+◌, ◌^◌, ◌<◌, ◌≤◌, Bool, eqb, List, ◌++◌, map, length, sym, ap, ◌∙◌, subst, arith, length-append}
+use Rattle.std.proofs.Common.{ℕ, ◌^◌, ◌<◌, ◌≤◌, eqb, List, ◌++◌, map, length, sym, subst, arith, length-append}
 use lib.ListN.{length-map}
 use Rattle.programs.specs.Places.{In}
 use Rattle.twins.specs.Naming.{name}

@@ -1,5 +1,5 @@
 -- The codes that stand for a pair.
-use Rattle.std.proofs.Common.{◌≡◌, ℕ, ◌+◌, ◌/◌, ◌%◌, ◌^◌, ◌<◌, ◌≤◌, Bool, true, false, cond, ◌&&◌, T, eqb, ltb, List, [], ◌∷◌, ◌++◌, map, length, take, drop, Some, None, Option, sym, refl, ap, ◌∙◌, subst, arith, eqb→eq, ltb→lt, lt→ltb, length-drop, take-append-drop, length-take-le}
+use Rattle.std.proofs.Common.{◌≡◌, ℕ, ◌/◌, ◌%◌, ◌^◌, ◌<◌, ◌≤◌, true, cond, ◌&&◌, T, eqb, ltb, List, [], ◌∷◌, ◌++◌, map, length, take, drop, Some, None, sym, ap, ◌∙◌, subst, arith, eqb→eq, lt→ltb, length-drop, take-append-drop, length-take-le}
 use lib.Dec.{eqb_refl}
 use lib.ListN.{length-map}
 use lib.Seq.{take-append_seam, drop-append_seam}
@@ -7,7 +7,7 @@ use Rattle.std.proofs.lemmas.Bool.{cond-true, cond-false}
 use Rattle.lists.specs.Held.{held}
 use Rattle.lists.proofs.Extends.{held_few}
 use Rattle.programs.specs.Places.{In}
-use Rattle.naming.specs.Names.{number, names}
+use Rattle.naming.specs.Names.{number}
 use Rattle.twins.specs.Naming.{name}
 use Rattle.twins.specs.Pairs.{Pair, normal}
 use Rattle.twins.specs.Codes.{code, pair_of, names_of, same_list, Small}

@@ -3,7 +3,7 @@ ghost use Rattle.std.specs.Prelude.{◌≡◌, ◌^◌, ◌<◌, map, take, IfSo
 ghost use Rattle.std.specs.Option.{option_map};
 ghost use Rattle.lists.specs.Held.{held};
 ghost use Rattle.naming.specs.Names.{number};
-ghost use Rattle.twins.specs.Codes.{code as code_of_lem, four as four-of, names_of};
+ghost use Rattle.twins.specs.Codes.{code as code_of, four as four_of, names_of};
 ghost use Rattle.pairs.specs.Decoding.{used_digit, decoded};
 ghost use Rattle.pairs.specs.Stored.{pair_model};
 
@@ -25,7 +25,7 @@ fn digit(names: &[Name], k: usize) -> u64
 
 // The digits of one side.
 fn four(names: &[Name]) -> u64
-    ensures is { result ≡ four-of (map number names.now) }
+    ensures is { result ≡ four_of (map number names.now) }
     ensures small { result < 2 ^ 21 }
 {
     ((digit(names, 0) * 16 + digit(names, 1)) * 16 + digit(names, 2)) * 16 + digit(names, 3)
@@ -60,7 +60,7 @@ fn side_names(digits: u64) -> BoundedVec<u8, 4>
 impl Pair {
     // The code of a pair, from which it is decoded again.
     pub fn code(&self) -> u64
-        ensures is { result ≡ code_of_lem (pair_model self.now) }
+        ensures is { result ≡ code_of (pair_model self.now) }
         ensures below { result < 2 ^ 42 }
         ensures back { decoded result ≡ Some (pair_model self.now) }
     {
@@ -73,7 +73,7 @@ impl Pair {
     // The pair with this code; none for a number that is no pair's code.
     pub fn from_code(code: u64) -> Option<Pair>
         ensures is { option_map pair_model result ≡ decoded code }
-        ensures exact { IfSome result (λ p. code_of_lem (pair_model p) ≡ code) }
+        ensures exact { IfSome result (λ p. code_of (pair_model p) ≡ code) }
     {
         let left = code / 0x20_0000_0000;
         if left >= 32 {

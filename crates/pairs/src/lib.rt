@@ -1,4 +1,6 @@
 // Pairs: a left and a right screen with a name for each slot, and the codes of pairs.
+#![tactic(auto)]
+
 ghost use Rattle.std.specs.Prelude.{◌+◌, ◌<◌, ◌≤◌, map, length};
 ghost use Rattle.lists.specs.Held.{held};
 ghost use Rattle.naming.specs.Names.{number};

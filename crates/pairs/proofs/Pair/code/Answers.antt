@@ -1,4 +1,4 @@
-use Rattle.std.proofs.Common.{◌≡◌, ℕ, ◌+◌, ◌*◌, ◌^◌, ◌<◌, Some, sym, ap, ◌∙◌, subst, arith}
+use Rattle.std.proofs.Common.{◌≡◌, ℕ, ◌+◌, ◌*◌, ◌^◌, ◌<◌, sym, ap, ◌∙◌, subst}
 use Rattle.twins.specs.Codes.{code, four}
 use Rattle.pairs.specs.Decoding.{decoded}
 use Rattle.pairs.specs.Stored.{pair_model}

@@ -1,5 +1,4 @@
-use Rattle.std.proofs.Common.{◌≡◌, ◌/◌, ◌%◌, ◌^◌, eqb, sym, ap, ◌∙◌}
-use Rattle.lists.specs.Held.{held}
+use Rattle.std.proofs.Common.{eqb, ◌∙◌}
 use Rattle.twins.specs.Pairs.{normal}
 use Rattle.twins.specs.Codes.{pair_of}
 use Rattle.pairs.specs.Stored.{pair_model}
@@ -10,8 +9,8 @@ use Rattle.pairs.proofs.Pair.from_code.Goals as goal
 pub returns-else-code : goal.returns-else-code
 returns-else-code c =
     let n = c.args.code in
-    let lefts = c.as-slice.ensures ∙ c.side-names-lefts.ensures in
-    let rights = c.as-slice-2.ensures ∙ c.side-names-rights.ensures in
+    let lefts = c.as_slice.ensures ∙ c.side_names-lefts.ensures in
+    let rights = c.as_slice-2.ensures ∙ c.side_names-rights.ensures in
     record {
       is =
           not_code n (pair_model c.in-Some.p)

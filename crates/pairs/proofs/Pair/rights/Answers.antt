@@ -7,5 +7,5 @@ use Rattle.pairs.proofs.Pair.rights.Goals as goal
 pub returns : goal.returns
 returns c =
     let p = c.args.self.now in
-    ap (map number) (take_all _ (drop p.split c.as-slice-all.result.now) (simp length-drop (omega arith)) ∙ ap (drop p.split) c.as-slice-all.ensures)
+    ap (map number) (take_all _ (drop p.split c.as_slice-all.result.now) (simp length-drop (omega arith)) ∙ ap (drop p.split) c.as_slice-all.ensures)
     ∙ sym (drop-map number p.split (held p.names))
