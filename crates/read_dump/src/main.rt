@@ -1,4 +1,6 @@
 // Reads a dump from standard input, and says in words which page it is the dump of, or why it is none.
+#![tactic(auto)]
+
 mod counted;
 mod refusal;
 mod sentences;
