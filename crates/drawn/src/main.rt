@@ -1,4 +1,6 @@
 // Settles a few drawn matches, and says in words what each is and how it comes out.
+#![tactic(auto)]
+
 mod examples;
 mod settling;
 mod words;
