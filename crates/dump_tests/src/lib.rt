@@ -1,4 +1,6 @@
 // What the reader and the writer of dumps do on examples.
+#![tactic(auto)]
+
 #[cfg(test)]
 mod checks;
 #[cfg(test)]

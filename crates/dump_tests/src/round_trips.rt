@@ -11,7 +11,7 @@ use std::test::Fail;
 // The text is read as a page whose dump it is.
 fn comes_back(rt: &impl Abort, text: &[u8]) -> Result<(), Fail> {
     let Ok(page) = read(text) else {
-        return Err(Fail::new("refused"));
+        return Err(Fail::new(format_args!("refused: {}", text.escape_ascii())));
     };
     has_dump(rt, &page, text)
 }
@@ -20,10 +20,10 @@ fn has_dump(rt: &impl Abort, page: &Page, text: &[u8]) -> Result<(), Fail> {
     let mut out = [0; 4096];
     match write(page, &mut out) {
         Ok(len) => {
-            assert!(rt; &out[0..len] == text);
+            assert!(rt; &out[0..len] == text, "{}", text.escape_ascii());
             Ok(())
         },
-        Err(_) => Err(Fail::new("no room")),
+        Err(_) => Err(Fail::new(format_args!("no room: {}", text.escape_ascii()))),
     }
 }
 
@@ -37,7 +37,7 @@ fn dumps_come_back(rt: HostRuntime) -> Result<(), Fail> {
         "0101010007\n0201\n0300011F000000\n",
         "010202000106\n0202\n0200\n030000091001\n0301000410001010\n",
     ] {
-        comes_back(&rt, text.as_bytes()).note(text)?;
+        comes_back(&rt, text.as_bytes())?;
     }
     Ok(())
 }
