@@ -1,4 +1,6 @@
 // Tests of kinds, of drawn matches with and without the layer, and of settling, as tables.
+#![tactic(auto)]
+
 ghost use Rattle.std.specs.Prelude.{◌≡◌};
 
 #[cfg(test)]

@@ -2,6 +2,7 @@
 use crate::row;
 use games::drawn::{Drawn, Row};
 use settle::{SettleFault, Settled, Verdict, settle, settle_drawn, settle_drawn_left};
+use std::fmt::Display;
 use std::process::Abort;
 use std::test::Fail;
 
@@ -30,15 +31,16 @@ fn check_answer(
     said: &'static str,
     start: u16,
     listed: usize,
+    what: &impl Display,
 ) -> Result<(), Fail> {
     match answer {
         Ok(settled) => {
-            assert_eq!(rt; word(settled.verdict), said);
-            assert_eq!(rt; count(settled.verdict), start);
-            assert_eq!(rt; settled.codes, listed);
+            assert_eq!(rt; word(settled.verdict), said, "{what}");
+            assert_eq!(rt; count(settled.verdict), start, "{what}");
+            assert_eq!(rt; settled.codes, listed, "{what}");
             Ok(())
         }
-        Err(_) => Err(Fail::new("refused")),
+        Err(_) => Err(Fail::new(format_args!("{what}: refused"))),
     }
 }
 
@@ -57,10 +59,11 @@ fn check_outcome(
     codes: [u64; 5],
     counts: [u16; 5],
     case: Case,
+    what: &'static str,
 ) -> Result<(), Fail> {
-    check_answer(rt, answer, case.said, case.counts[0], case.listed)?;
-    assert_eq!(rt; codes, case.codes);
-    assert_eq!(rt; counts, case.counts);
+    check_answer(rt, answer, case.said, case.counts[0], case.listed, &what)?;
+    assert_eq!(rt; codes, case.codes, "{what}");
+    assert_eq!(rt; counts, case.counts, "{what}");
     Ok(())
 }
 
@@ -71,6 +74,7 @@ fn check_drawn<'a>(
     rows: &'a [Row],
     replies: &'a [u32],
     case: Case,
+    what: &'static str,
 ) -> Result<(), Fail> {
     let mut codes = [99; 5];
     let mut counts = [88; 5];
@@ -83,7 +87,7 @@ fn check_drawn<'a>(
         &mut codes,
         &mut counts,
     );
-    check_outcome(rt, answer, codes, counts, case)
+    check_outcome(rt, answer, codes, counts, case, what)
 }
 
 fn check_left<'a>(
@@ -92,6 +96,7 @@ fn check_left<'a>(
     rows: &'a [Row],
     replies: &'a [u32],
     case: Case,
+    what: &'static str,
 ) -> Result<(), Fail> {
     let mut codes = [99; 5];
     let mut counts = [88; 5];
@@ -104,7 +109,7 @@ fn check_left<'a>(
         &mut codes,
         &mut counts,
     );
-    check_outcome(rt, answer, codes, counts, case)
+    check_outcome(rt, answer, codes, counts, case, what)
 }
 
 #[test]
@@ -125,28 +130,35 @@ fn fails(rt: HostRuntime) -> Result<(), Fail> {
         codes: [6, 0, 0, 0, 0],
         counts: [1, 0, 0, 0, 0],
     };
-    check_drawn(&rt, 6, &rows, &replies, one)?;
+    check_drawn(&rt, 6, &rows, &replies, one, "one challenge")?;
     let two = Case {
         said: "fails",
         listed: 2,
         codes: [5, 6, 0, 0, 0],
         counts: [2, 1, 0, 0, 0],
     };
-    check_drawn(&rt, 5, &rows, &replies, two)?;
+    check_drawn(&rt, 5, &rows, &replies, two, "two challenges")?;
     let three = Case {
         said: "fails",
         listed: 4,
         codes: [4, 3, 5, 6, 0],
         counts: [3, 0, 2, 1, 0],
     };
-    check_drawn(&rt, 4, &rows, &replies, three)?;
+    check_drawn(&rt, 4, &rows, &replies, three, "three challenges")?;
     let later = Case {
         said: "fails",
         listed: 5,
         codes: [9, 4, 3, 5, 6],
         counts: [1, 3, 0, 2, 1],
     };
-    check_drawn(&rt, 9, &rows, &replies, later).note("rounds go on after START has its count")
+    check_drawn(
+        &rt,
+        9,
+        &rows,
+        &replies,
+        later,
+        "rounds go on after START has its count",
+    )
 }
 
 #[test]
@@ -159,21 +171,28 @@ fn holds(rt: HostRuntime) -> Result<(), Fail> {
         codes: [1, 3, 2, 0, 0],
         counts: [0, 1, 0, 0, 0],
     };
-    check_drawn(&rt, 1, &rows, &replies, cycle)?;
+    check_drawn(&rt, 1, &rows, &replies, cycle, "a cycle")?;
     let alone = Case {
         said: "holds",
         listed: 1,
         codes: [7, 0, 0, 0, 0],
         counts: [0, 0, 0, 0, 0],
     };
-    check_drawn(&rt, 7, &rows, &replies, alone)?;
+    check_drawn(&rt, 7, &rows, &replies, alone, "no challenge")?;
     let kept = Case {
         said: "holds",
         listed: 1,
         codes: [3, 0, 0, 0, 0],
         counts: [0, 0, 0, 0, 0],
     };
-    check_left(&rt, 3, &rows, &replies, kept).note("it fails by the right's challenge alone")
+    check_left(
+        &rt,
+        3,
+        &rows,
+        &replies,
+        kept,
+        "it fails by the right's challenge alone",
+    )
 }
 
 #[test]
@@ -191,6 +210,7 @@ fn full(rt: HostRuntime) -> Result<(), Fail> {
             codes: [0; 5],
             counts: [0; 5],
         },
+        "one more than there is room for",
     )?;
     check_drawn(
         &rt,
@@ -203,8 +223,8 @@ fn full(rt: HostRuntime) -> Result<(), Fail> {
             codes: [1, 0, 2, 3, 4],
             counts: [0; 5],
         },
+        "just as many as there is room for",
     )
-    .note("just as many as there is room for")
 }
 
 fn all_are<T: Copy + PartialEq>(xs: &[T], v: T) -> bool {
@@ -217,12 +237,17 @@ fn all_are<T: Copy + PartialEq>(xs: &[T], v: T) -> bool {
 }
 
 // START first, and 0 in all other entries.
-fn check_taken(rt: &impl Abort, codes: &[u64], counts: &[u16]) -> Result<(), Fail> {
+fn check_taken(
+    rt: &impl Abort,
+    codes: &[u64],
+    counts: &[u16],
+    what: &impl Display,
+) -> Result<(), Fail> {
     let [start, rest @ ..] = codes else {
-        return Err(Fail::new("empty lists were taken"));
+        return Err(Fail::new(format_args!("{what}: empty lists were taken")));
     };
-    assert_eq!(rt; *start, 7);
-    assert!(rt; all_are(rest, 0) && all_are(counts, 0));
+    assert_eq!(rt; *start, 7, "{what}");
+    assert!(rt; all_are(rest, 0) && all_are(counts, 0), "{what}");
     Ok(())
 }
 
@@ -231,10 +256,10 @@ fn check_refused(
     fault: SettleFault,
     codes: &[u64],
     counts: &[u16],
-) -> Result<(), Fail> {
-    assert_eq!(rt; fault.number(), 44);
-    assert!(rt; all_are(codes, 99) && all_are(counts, 88));
-    Ok(())
+    what: &impl Display,
+) {
+    assert_eq!(rt; fault.number(), 44, "{what}");
+    assert!(rt; all_are(codes, 99) && all_are(counts, 88), "{what}");
 }
 
 // Settles a match without challenges in these lists.
@@ -243,6 +268,7 @@ fn check_lists(
     codes: &mut [u64],
     counts: &mut [u16],
     taken: bool,
+    what: &impl Display,
 ) -> Result<(), Fail> {
     let game = Drawn {
         start: 7,
@@ -250,10 +276,13 @@ fn check_lists(
         replies: &[],
     };
     let answer = settle(&game, codes, counts);
-    assert_eq!(rt; answer.is_ok(), taken);
+    assert_eq!(rt; answer.is_ok(), taken, "{what}");
     match answer {
-        Ok(_) => check_taken(rt, codes, counts),
-        Err(fault) => check_refused(rt, fault, codes, counts),
+        Ok(_) => check_taken(rt, codes, counts, what),
+        Err(fault) => {
+            check_refused(rt, fault, codes, counts, what);
+            Ok(())
+        }
     }
 }
 
@@ -275,9 +304,13 @@ fn lengths(rt: HostRuntime) -> Result<(), Fail> {
         let mut found = [99u64; 1_025];
         let mut beside = [88u16; 1_025];
         assert!(rt; codes <= 1_025 && counts <= 1_025);
-        check_lists(&rt, &mut found[0..codes], &mut beside[0..counts], taken).note(format_args!(
-            "{codes} and {counts}"
-        ))?;
+        check_lists(
+            &rt,
+            &mut found[0..codes],
+            &mut beside[0..counts],
+            taken,
+            &format_args!("{codes} and {counts}"),
+        )?;
     }
     Ok(())
 }
@@ -307,9 +340,16 @@ fn check_ring(
         rows: &rows,
         replies: &replies,
     };
-    check_answer(rt, settle(&game, &mut codes, &mut counts), said, 0, listed)?;
-    assert!(rt; all_are(&counts, 0));
-    assert_eq!(rt; codes[1_023], last);
+    check_answer(
+        rt,
+        settle(&game, &mut codes, &mut counts),
+        said,
+        0,
+        listed,
+        &size,
+    )?;
+    assert!(rt; all_are(&counts, 0), "{size}");
+    assert_eq!(rt; codes[1_023], last, "{size}");
     Ok(())
 }
 

@@ -1,6 +1,6 @@
 // Kinds of value: which are the same, where one stands, and how it is told.
+use std::fmt::Display;
 use std::process::Abort;
-use std::test::Fail;
 use values::Kind;
 use values::kinds::{Fix, Reading, TimeOfDay};
 use values::search::position;
@@ -14,14 +14,13 @@ fn fix(latitude: i32, longitude: i32, height: i32) -> Fix {
     }
 }
 
-fn check_same<K: Kind>(rt: &impl Abort, v: &K, w: &K, same: bool) -> Result<(), Fail> {
-    assert_eq!(rt; v.equals(w), same);
-    assert_eq!(rt; w.equals(v), same);
-    Ok(())
+fn check_same<K: Kind>(rt: &impl Abort, v: &K, w: &K, same: bool, what: &impl Display) {
+    assert_eq!(rt; v.equals(w), same, "{what}");
+    assert_eq!(rt; w.equals(v), same, "{what}");
 }
 
 #[test]
-fn readings_and_times(rt: HostRuntime) -> Result<(), Fail> {
+fn readings_and_times(rt: HostRuntime) {
     let readings = [
         (0, 0, true),
         (0, 1, false),
@@ -30,7 +29,13 @@ fn readings_and_times(rt: HostRuntime) -> Result<(), Fail> {
         (u32::MAX, 0, false),
     ];
     for (a, b, same) in readings {
-        check_same(&rt, &Reading(a), &Reading(b), same).note(format_args!("readings {a} and {b}"))?;
+        check_same(
+            &rt,
+            &Reading(a),
+            &Reading(b),
+            same,
+            &format_args!("readings {a} and {b}"),
+        );
         assert_eq!(rt; Reading(a).same_as(Reading(b)), same);
     }
     let times = [
@@ -41,16 +46,19 @@ fn readings_and_times(rt: HostRuntime) -> Result<(), Fail> {
         (u32::MAX, 23_295, true),
     ];
     for (a, b, same) in times {
-        check_same(&rt, &TimeOfDay(a), &TimeOfDay(b), same).note(format_args!(
-            "times {a} and {b}"
-        ))?;
+        check_same(
+            &rt,
+            &TimeOfDay(a),
+            &TimeOfDay(b),
+            same,
+            &format_args!("times {a} and {b}"),
+        );
         assert_eq!(rt; TimeOfDay(a).same_as(TimeOfDay(b)), same);
     }
-    Ok(())
 }
 
 #[test]
-fn fixes(rt: HostRuntime) -> Result<(), Fail> {
+fn fixes(rt: HostRuntime) {
     let here = fix(1, -2, 3);
     let others = [
         (1, -2, 3, true),
@@ -61,10 +69,9 @@ fn fixes(rt: HostRuntime) -> Result<(), Fail> {
     ];
     for (latitude, longitude, height, same) in others {
         let there = fix(latitude, longitude, height);
-        check_same(&rt, &here, &there, same)?;
+        check_same(&rt, &here, &there, same, &"fixes");
         assert_eq!(rt; here.same_as(there), same);
     }
-    Ok(())
 }
 
 #[test]
@@ -99,16 +106,16 @@ fn check_told<V: Told>(
     room: usize,
     fits: bool,
     bytes: [u8; 6],
-) -> Result<(), Fail> {
+    what: &impl Display,
+) {
     let mut out = [9u8; 6];
-    assert!(rt; room <= 6);
-    assert_eq!(rt; value.tell(&mut out[0..room]), fits);
-    assert_eq!(rt; out, bytes);
-    Ok(())
+    assert!(rt; room <= 6, "{what}");
+    assert_eq!(rt; value.tell(&mut out[0..room]), fits, "{what}");
+    assert_eq!(rt; out, bytes, "{what}");
 }
 
 #[test]
-fn told_readings(rt: HostRuntime) -> Result<(), Fail> {
+fn told_readings(rt: HostRuntime) {
     assert_eq!(rt; <Reading as Told>::width(), 4);
     let table = [
         (0x0102_0304, 4, true, [1, 2, 3, 4, 9, 9]),
@@ -120,15 +127,19 @@ fn told_readings(rt: HostRuntime) -> Result<(), Fail> {
     ];
     for (number, room, fits, bytes) in table {
         assert_eq!(rt; Reading(number).number(), number as u64);
-        check_told(&rt, &Reading(number), room, fits, bytes).note(format_args!(
-            "reading {number} in {room}"
-        ))?;
+        check_told(
+            &rt,
+            &Reading(number),
+            room,
+            fits,
+            bytes,
+            &format_args!("reading {number} in {room}"),
+        );
     }
-    Ok(())
 }
 
 #[test]
-fn told_times(rt: HostRuntime) -> Result<(), Fail> {
+fn told_times(rt: HostRuntime) {
     assert_eq!(rt; <TimeOfDay as Told>::width(), 4);
     let table = [
         (86_403, 3, 4, true, [0, 0, 0, 3, 9, 9]),
@@ -139,9 +150,13 @@ fn told_times(rt: HostRuntime) -> Result<(), Fail> {
     ];
     for (seconds, number, room, fits, bytes) in table {
         assert_eq!(rt; TimeOfDay(seconds).number(), number);
-        check_told(&rt, &TimeOfDay(seconds), room, fits, bytes).note(format_args!(
-            "time {seconds} in {room}"
-        ))?;
+        check_told(
+            &rt,
+            &TimeOfDay(seconds),
+            room,
+            fits,
+            bytes,
+            &format_args!("time {seconds} in {room}"),
+        );
     }
-    Ok(())
 }
