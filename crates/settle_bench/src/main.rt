@@ -1,4 +1,6 @@
 // Settles the matches that its arguments name, as large as the lists allow: `chain` or `wide`.
+#![tactic(auto)]
+
 mod shapes;
 
 use crate::shapes::{Shape, Table};
