@@ -131,7 +131,7 @@ fn start_formed(screens: &[Screen], start: u8, numbers: &[Name]) -> bool
 
 // Whether these parts make a well-formed page.
 pub(crate) fn is_formed(screens: &[Screen], lines: &[Line], start: u8, numbers: &[Name]) -> bool
-    ensures { result ≡ well_formed (record { screens = screens.entry.now; lines = map line_model lines.now; start = start; numbers = numbers.now }) }
+    ensures { result ≡ well_formed (record { screens = screens.now; lines = map line_model lines.now; start = start; numbers = numbers.now }) }
 {
     screens_formed(screens) && lines_formed(screens, lines) && start_formed(screens, start, numbers)
 }
