@@ -1,4 +1,2 @@
-pub mod Pushes
 pub mod Extends
 pub mod Tested
-pub mod Kept

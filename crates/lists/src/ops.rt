@@ -1,7 +1,7 @@
-ghost use Rattle.std.specs.Prelude.{◌≡◌, ℕ, ◌≤◌, ltb, List, [], ◌∷◌, ◌++◌, length, take, if◌then◌else◌, nat_lt};
+ghost use Rattle.std.specs.Prelude.{◌≡◌, ℕ, ◌≤◌, ltb, List, [], ◌∷◌, ◌++◌, length, take, if◌then◌else◌, nat_lt, Ok, Err};
 ghost use Rattle.lists.specs.Held.{held};
 
-use super::BoundedVec;
+use super::{BoundedVec, Full};
 
 impl<T: Copy, const N: usize> BoundedVec<T, N> {
     // An empty vector; the fill is never seen.
@@ -24,21 +24,20 @@ impl<T: Copy, const N: usize> BoundedVec<T, N> {
     pub fn as_slice(&self) -> &[T]
         ensures { result.now ≡ held self.now }
     {
-        let all = &self.items[..];
-        &all[0..self.len]
+        &self.items[..self.len]
     }
 
-    // Adds an item at the end; false, with nothing changed, where N are held.
-    pub fn push(&mut self, item: T) -> bool
-        ensures said { result ≡ nat_lt (length (held self.old)) N }
+    // Adds an item at the end; nothing is changed where N are held.
+    pub fn push(&mut self, item: T) -> Result<(), Full>
+        ensures said { result ≡ (if nat_lt (length (held self.old)) N then Ok tt else Err record {}) }
         ensures held { held self.new ≡ (if ltb (length (held self.old)) N then held self.old ++ item ∷ [] else held self.old) }
     {
         if self.len >= N {
-            return false;
+            return Err(Full);
         }
         self.items[self.len] = item;
         self.len += 1;
-        true
+        Ok(())
     }
 
     // Adds items at the end, as many as there is room for.

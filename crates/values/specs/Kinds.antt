@@ -1,8 +1,9 @@
 -- What readings, fixes and times of day mean, and when two mean the same.
-use Rattle.std.specs.Prelude.{ℕ, ◌%◌, ◌^◌, Bool, false, ◌&&◌, ℤ, pos, negsuc, ◌==◌}
+use Rattle.std.specs.Prelude.{ℕ, ◌%◌, ◌^◌, Bool, ◌&&◌, ℤ, ◌==◌}
 use Rattle.values.specs.declared.kinds.Reading.{Reading}
 use Rattle.values.specs.declared.kinds.Fix.{Fix}
 use Rattle.values.specs.declared.kinds.TimeOfDay.{TimeOfDay}
+pub use Rattle.std.specs.Ordering.{int_eq as same_signed}
 
 -- a reading has 32 bits: the remainder is the number itself
 abbrev pub reading_means : Reading → ℕ
@@ -13,12 +14,6 @@ same_reading v w = reading_means v == reading_means w
 
 abbrev pub fix_means : Fix → ℤ × ℤ × ℤ
 fix_means v = (v.latitude, v.longitude, v.height)
-
-abbrev pub same_signed : ℤ → ℤ → Bool
-same_signed (pos m) (pos n) = m == n
-same_signed (pos m) (negsuc n) = false
-same_signed (negsuc m) (pos n) = false
-same_signed (negsuc m) (negsuc n) = m == n
 
 abbrev pub same_fix : Fix → Fix → Bool
 same_fix v w = same_signed v.latitude w.latitude && same_signed v.longitude w.longitude && same_signed v.height w.height

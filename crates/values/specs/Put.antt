@@ -2,7 +2,7 @@
 use Rattle.std.specs.Prelude.{◌≡◌, ℕ, zero, suc, ◌+◌, ◌-◌, ◌*◌, ◌/◌, ◌%◌, ◌<◌, ◌≤◌, List, [], ◌∷◌, ◌++◌, length, drop, Decides, ◌==◌, slice_set, refl}
 use Rattle.std.proofs.Common.{sym, ap, ◌∙◌, sub-one, arith}
 use Rattle.std.proofs.lemmas.List.{append_assoc, length-set, drop-set, same_from_push}
-use Rattle.std.proofs.lemmas.Bool.{eqb-true, eq-eqb}
+use Rattle.std.proofs.lemmas.Bool.Decides.{Decides-eqb, Decides-like}
 use Rattle.values.specs.Bytes.{bytes}
 
 -- out with the w low bytes of n in its front
@@ -42,4 +42,4 @@ bytes_same (suc w) m n hm hn e =
 
 -- w bytes tell a number that has room in them
 pub bytes_tell : (w m n : ℕ) → m < room w → n < room w → Decides (m == n) (bytes w m ≡ bytes w n)
-bytes_tell w m n hm hn = ((λ e. ap (bytes w) (eqb-true m n e)), (λ e. eq-eqb m n (bytes_same w m n hm hn e)))
+bytes_tell w m n hm hn = Decides-like (m == n) (ap (bytes w)) (bytes_same w m n hm hn) (Decides-eqb m n)

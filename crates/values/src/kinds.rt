@@ -2,13 +2,13 @@
 ghost use Rattle.std.specs.Prelude.{◌≡◌, ℕ, ◌%◌, ℤ, Decides, nat_eq};
 ghost use Rattle.std.proofs.Common.{ap, rules};
 ghost use Rattle.values.specs.Kinds.{reading_means, fix_means, time_means, same_reading, same_fix, same_time};
-ghost use Rattle.std.proofs.lemmas.Bool.{and_parts, and_from};
+ghost use Rattle.std.proofs.lemmas.Bool.Decides.{Decides-and, Decides-like};
 ghost use Rattle.values.specs.Signed.{decides_signed};
 
 use crate::Kind;
 
 // A reading of 32 bits, such as a heart rate.
-#[derive(Clone, Copy)]
+#[derive(Clone, Copy, Debug, PartialEq, Eq)]
 pub struct Reading(pub u32);
 
 impl Kind for Reading {
@@ -20,13 +20,14 @@ impl Kind for Reading {
 
     ghost exact = { Prim.search rules };
 
+    // The numbers themselves: reading them shows that they have 32 bits, so that each is its own remainder.
     fn equals(&self, other: &Reading) -> bool {
         self.0 == other.0
     }
 }
 
 impl Reading {
-    // Two readings mean the same when they are the same number.
+    // Two readings mean the same when they are the same number. Each kind has a same_as, which says so in its own words.
     pub fn same_as(self, other: Reading) -> bool
         ensures { Decides result (self.0 ≡ other.0) }
     {
@@ -35,7 +36,7 @@ impl Reading {
 }
 
 // A position: latitude and longitude in ten-millionths of a degree, height in decimetres.
-#[derive(Clone, Copy)]
+#[derive(Clone, Copy, Debug, PartialEq, Eq)]
 pub struct Fix {
     pub latitude: i32,
     pub longitude: i32,
@@ -49,22 +50,13 @@ impl Kind for Fix {
 
     ghost same = { same_fix };
 
-    ghost exact = { λ v w. (
-      λ e.
-          let p = and_parts _ _ e in
-          let q = and_parts _ _ p.0 in
-          let a = (decides_signed v.latitude w.latitude).0 q.0 in
-          let b = (decides_signed v.longitude w.longitude).0 q.1 in
-          let c = (decides_signed v.height w.height).0 p.1 in
-          λ i. (a i, b i, c i),
-      λ e. and_from _ _ (and_from _ _ ((decides_signed v.latitude w.latitude).1 (ap (λ t. t.0) e)) ((decides_signed v.longitude w.longitude).1 (ap (λ t. t.1) e)))
-          ((decides_signed v.height w.height).1 (ap (λ t. t.2) e)),
-    ) };
+    ghost exact = { λ v w. Decides-like _
+        (λ p i. (p.0.0 i, p.0.1 i, p.1 i))
+        (λ e. ((ap (λ t. t.0) e, ap (λ t. t.1) e), ap (λ t. t.2) e))
+        (Decides-and _ _ (Decides-and _ _ (decides_signed v.latitude w.latitude) (decides_signed v.longitude w.longitude)) (decides_signed v.height w.height)) };
 
     fn equals(&self, other: &Fix) -> bool {
-        self.latitude == other.latitude
-            && self.longitude == other.longitude
-            && self.height == other.height
+        self == other
     }
 }
 
@@ -104,7 +96,7 @@ impl TimeOfDay {
     }
 }
 
-// The code of a place in a match.
+// The code of a place in a match. Codes and bytes are two impls, since one for all numbers would overlap the kinds above.
 impl Kind for u64 {
     ghost sense = { ℕ };
 

@@ -8,10 +8,5 @@ use crate::Kind;
 pub fn position<K: Kind>(items: &[K], wanted: &K) -> Option<usize>
     ensures { result ≡ first_place (K.Kind.same wanted.now) items.now }
 {
-    for (i, x) in items.iter().enumerate() {
-        if wanted.equals(x) {
-            return Some(i);
-        }
-    }
-    None
+    items.iter().position(|x| wanted.equals(x))
 }
