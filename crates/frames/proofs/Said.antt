@@ -1,7 +1,9 @@
 -- A frame that bytes say is in range, and has just those bytes.
-use Rattle.std.proofs.Common.{◌≡◌, ℕ, ◌+◌, ◌≤◌, Bool, true, false, cond, ◌||◌, eqb, leb, List, [], ◌∷◌, map, length, get_or, drop, Ok, sym, refl, ap, subst, arith}
+use Rattle.std.proofs.Common.{◌≡◌, ℕ, ◌+◌, ◌≤◌, Bool, true, false, cond, ◌||◌, eqb, leb, List, [], ◌∷◌, map, length, get_or, drop, Ok, sym, refl, ap, ◌∙◌, subst, arith, drop-cons}
 use lib.ListN.{length-map}
 use Rattle.std.proofs.lemmas.Bool.Decides.{nat_tests}
+use Rattle.std.proofs.lemmas.List.{drop_all, map-id}
+use Rattle.std.proofs.lemmas.Simd.{map-map}
 use Rattle.std.proofs.lemmas.Bool.{and_parts, and_from, eqb-true, eqb-false, leb-true, le-leb}
 use Rattle.lists.specs.Between.{between}
 use Rattle.lists.specs.Every.{every}
@@ -32,10 +34,6 @@ source_in b e = go (eqb b 16) refl
     go true h = (sym (eqb-true b 16 h), refl)
     go false h = (refl, grind (arith, nat_tests))
 
-names_back : (bs : List ℕ) → map name_byte (map name_of bs) ≡ bs
-names_back [] = refl
-names_back (b ∷ bs) = ap (λ l. b ∷ l) (names_back bs)
-
 numbers_in : (k place : ℕ) (bs : List ℕ) → 4 ≤ place → fields_ok 1 k place bs ≡ true → every name_sound (map name_of bs) ≡ true
 numbers_in k place [] h e = refl
 numbers_in k place (b ∷ bs) h e =
@@ -63,7 +61,7 @@ header_says s n st ns e few =
     let a = and_parts (between 1 32 s) _ e in
     let b = and_parts (leb n 128) _ a.1 in
     let c = numbers_in n 4 ns (omega arith) b.1 in (
-      ap (λ l. 1 ∷ s ∷ n ∷ st ∷ l) (names_back ns),
+      ap (λ l. 1 ∷ s ∷ n ∷ st ∷ l) (map-map name_byte name_of ns ∙ map-id ns),
       and_from (between 1 32 s) _ a.0 (and_from (leb n 128) _ b.0 (and_from (every name_sound (map name_of ns)) _ c (le-leb (length (map name_of ns)) 4 (omega (arith, length-map ns name_of))))),
     )
 
@@ -84,26 +82,14 @@ line_says from kind port third next ss e few =
 
 -- a list by its first places
 two : (k : ℕ) (bs : List ℕ) → get_or bs 0 0 ≡ k → length bs ≡ 2 → k ∷ get_or bs 1 0 ∷ [] ≡ bs
-two k [] e h = absurd (omega arith)
-two k (a ∷ []) e h = absurd (omega arith)
-two k (a ∷ b ∷ []) e h = ap (λ x. x ∷ b ∷ []) (sym e)
-two k (a ∷ b ∷ c ∷ r) e h = absurd (omega arith)
+two k bs e h = cc (drop-cons bs 0 0 (omega arith), drop-cons bs 1 0 (omega arith), drop_all 2 bs (omega arith))
 
 four : (k : ℕ) (bs : List ℕ) → get_or bs 0 0 ≡ k → 4 ≤ length bs → k ∷ get_or bs 1 0 ∷ get_or bs 2 0 ∷ get_or bs 3 0 ∷ drop 4 bs ≡ bs
-four k [] e h = absurd (omega arith)
-four k (a ∷ []) e h = absurd (omega arith)
-four k (a ∷ b ∷ []) e h = absurd (omega arith)
-four k (a ∷ b ∷ c ∷ []) e h = absurd (omega arith)
-four k (a ∷ b ∷ c ∷ d ∷ r) e h = ap (λ x. x ∷ b ∷ c ∷ d ∷ r) (sym e)
+four k bs e h = cc (drop-cons bs 0 0 (omega arith), drop-cons bs 1 0 (omega arith), drop-cons bs 2 0 (omega arith), drop-cons bs 3 0 (omega arith))
 
 six : (k : ℕ) (bs : List ℕ) → get_or bs 0 0 ≡ k → 6 ≤ length bs → k ∷ get_or bs 1 0 ∷ get_or bs 2 0 ∷ get_or bs 3 0 ∷ get_or bs 4 0 ∷ get_or bs 5 0 ∷ drop 6 bs ≡ bs
-six k [] e h = absurd (omega arith)
-six k (a ∷ []) e h = absurd (omega arith)
-six k (a ∷ b ∷ []) e h = absurd (omega arith)
-six k (a ∷ b ∷ c ∷ []) e h = absurd (omega arith)
-six k (a ∷ b ∷ c ∷ d ∷ []) e h = absurd (omega arith)
-six k (a ∷ b ∷ c ∷ d ∷ x ∷ []) e h = absurd (omega arith)
-six k (a ∷ b ∷ c ∷ d ∷ x ∷ y ∷ r) e h = ap (λ z. z ∷ b ∷ c ∷ d ∷ x ∷ y ∷ r) (sym e)
+six k bs e h =
+    cc (drop-cons bs 0 0 (omega arith), drop-cons bs 1 0 (omega arith), drop-cons bs 2 0 (omega arith), drop-cons bs 3 0 (omega arith), drop-cons bs 4 0 (omega arith), drop-cons bs 5 0 (omega arith))
 
 -- by the frame's kind, p and q telling whether it is 1 or 2
 by_kind : (bs : List ℕ) (p q : Bool) → eqb (get_or bs 0 0) 1 ≡ p → eqb (get_or bs 0 0) 2 ≡ q → between 1 3 (get_or bs 0 0) ≡ true → in_range bs ≡ true

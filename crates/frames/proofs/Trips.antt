@@ -2,6 +2,8 @@
 use Rattle.std.proofs.Common.{◌≡◌, ℕ, ◌+◌, ◌≤◌, true, false, cond, ◌||◌, eqb, leb, List, [], ◌∷◌, map, length, get_or, Ok, refl, ap, ◌∙◌, arith}
 use lib.ListN.{length-map}
 use Rattle.std.proofs.lemmas.Bool.Decides.{nat_tests}
+use Rattle.std.proofs.lemmas.List.{map-id}
+use Rattle.std.proofs.lemmas.Simd.{map-map}
 use Rattle.std.proofs.lemmas.Bool.{and_parts, and_from, leb-true}
 use Rattle.lists.specs.Between.{between}
 use Rattle.lists.specs.Every.{every}
@@ -39,10 +41,6 @@ number_at place b low high e = grind (arith, nat_tests)
 source_at : (kind place b : ℕ) → 6 ≤ place → place ≤ 9 → (leb b 3 || eqb b 16) ≡ true → line_ok kind place b ≡ true
 source_at kind place b low high e = grind (arith, nat_tests)
 
-names_again : (ns : List Name) → map name_of (map name_byte ns) ≡ ns
-names_again [] = refl
-names_again (n ∷ ns) = ap (λ l. n ∷ l) (names_again ns)
-
 numbers_ok : (k place : ℕ) (ns : List Name) → 4 ≤ place → place + length ns ≤ 8 → every name_sound ns ≡ true → fields_ok 1 k place (map name_byte ns) ≡ true
 numbers_ok k place [] low high e = refl
 numbers_ok k place (n ∷ ns) low high e =
@@ -78,7 +76,7 @@ header_told at h e =
     let n = length-map h.numbers name_byte in
     answered at bs (header h) refl (within 4 8 (length bs) (omega (arith, n)) (omega (arith, n)))
     (and_from (between 1 32 h.screens) _ a.0 (and_from (leb h.lines 128) _ b.0 (numbers_ok h.lines 4 h.numbers (omega arith) (omega arith) c.0)))
-    (ap (λ ns. header (record { screens = h.screens; lines = h.lines; start = h.start; numbers = ns })) (names_again h.numbers))
+    (ap (λ ns. header (record { screens = h.screens; lines = h.lines; start = h.start; numbers = ns })) (map-map name_of name_byte h.numbers ∙ map-id h.numbers))
 
 line_told : (at : ℕ) (l : LineModel) → sound (line l) ≡ true → frame_answer at (frame_bytes (line l)) ≡ Ok (line l)
 line_told at l e =

@@ -13,6 +13,7 @@ pub enum FrameQuestion {
     Range = 23,
 }
 
+// An enum of this layer's own: one for this layer and the next higher could not name the layers in its cases.
 #[derive(Clone, Copy)]
 pub enum FrameFault {
     Text(TextFault),

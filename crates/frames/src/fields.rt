@@ -1,12 +1,13 @@
-// Fields that one byte says, up to four in a row.
+// Fields and their bytes: one byte each, but a line's kind, which two bytes say.
 ghost use Rattle.std.specs.Prelude.{◌≡◌, ℕ, ◌++◌, map, take};
 ghost use Rattle.lists.specs.Held.{held};
-ghost use Rattle.frames.specs.Fields.{source_of, source_byte, name_of, name_byte};
+ghost use Rattle.frames.specs.Fields.{source_of, source_byte, name_of, name_byte, kind_of, kind_byte, third_byte};
 
 use lists::BoundedVec;
-use pages::{Name, Slot, Source};
+use pages::{LineKind, Name, Slot, Source};
 
-// What a byte in range says, and the byte again.
+// What a byte in range says, and the byte again. A trait of this crate and not From: a crate may not write From<u8>
+// for the types of another, and the crate of pages knows nothing of bytes.
 pub trait Field: Copy {
     ghost of: { ℕ → Self };
 
@@ -53,11 +54,31 @@ impl Field for Name {
     }
 }
 
+// The kind of a line by its kind byte and its third byte: bytes, as no range has been asked yet.
+pub(crate) fn line_kind(kind: u8, third: u8) -> LineKind
+    ensures { result ≡ kind_of kind third }
+{
+    match kind {
+        0 => LineKind::Take,
+        _ => LineKind::Show(Slot(third)),
+    }
+}
+
+// The kind byte and the third byte of a line.
+pub(crate) fn kind_bytes(kind: LineKind) -> (u8, u8)
+    ensures { result ≡ (kind_byte kind, third_byte kind) }
+{
+    match kind {
+        LineKind::Take => (0, 0x10),
+        LineKind::Show(slot) => (1, slot.0),
+    }
+}
+
 // The fields of the first four bytes.
-pub(crate) fn fields<F: Field>(bytes: &[u8], fill: F) -> BoundedVec<F, 4>
+pub(crate) fn fields<F: Field>(bytes: &[u8]) -> BoundedVec<F, 4>
     ensures { held result ≡ take 4 (map F.Field.of bytes.now) }
 {
-    let mut out = BoundedVec::new(fill);
+    let mut out = BoundedVec::new(F::of_byte(0));
     for b in bytes {
         let _ = out.push(F::of_byte(*b));
     }
@@ -69,6 +90,6 @@ pub(crate) fn put_fields<F: Field>(bytes: &mut BoundedVec<u8, 16>, fields: &[F])
     ensures { held bytes.new ≡ take 16 (held bytes.old ++ map F.Field.byte fields.now) }
 {
     for f in fields {
-        bytes.extend(&[f.to_byte()]);
+        let _ = bytes.push(f.to_byte());
     }
 }

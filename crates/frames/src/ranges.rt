@@ -2,7 +2,8 @@
 ghost use Rattle.std.specs.Prelude.{◌≡◌, slice_index};
 ghost use Rattle.frames.specs.Ranges.{field_ok, in_range};
 
-// Whether a byte may stand at this place of a frame of this kind, where a line frame has this line kind.
+// Whether a byte may stand at this place of a frame of this kind, where a line frame has this line kind. Both kinds are
+// bytes of the frame, not enums: the line kind is asked here too, at place 2.
 fn field_in_range(frame: u8, kind: u8, place: usize, byte: u8) -> bool
     ensures { result ≡ field_ok frame kind place byte }
 {
@@ -26,7 +27,7 @@ fn field_in_range(frame: u8, kind: u8, place: usize, byte: u8) -> bool
 fn byte_at(bytes: &[u8], place: usize) -> u8
     ensures { result ≡ slice_index bytes.now place }
 {
-    if place < bytes.len() { bytes[place] } else { 0 }
+    bytes.get(place).copied().unwrap_or(0)
 }
 
 pub(crate) fn fields_in_range(bytes: &[u8]) -> bool
@@ -34,10 +35,9 @@ pub(crate) fn fields_in_range(bytes: &[u8]) -> bool
 {
     let frame = byte_at(bytes, 0);
     let kind = byte_at(bytes, 2);
-    for place in 1..bytes.len() {
-        if !field_in_range(frame, kind, place, bytes[place]) {
-            return false;
-        }
-    }
-    true
+    bytes
+        .iter()
+        .enumerate()
+        .skip(1)
+        .all(|(place, b)| field_in_range(frame, kind, place, *b))
 }

@@ -1,23 +1,21 @@
 // Whether the parts of a page fit together.
 ghost use Rattle.std.specs.Prelude.{◌≡◌, map};
+ghost use Rattle.lists.specs.Held.{held};
 ghost use Rattle.lists.specs.Every.{every};
-ghost use Rattle.pages.specs.Model.{line_model};
-ghost use Rattle.pages.specs.Formed.{slots_at, few_slots, small_number, source_stands, shown_stands, line_stands, line_formed, screens_formed, lines_formed, start_formed, well_formed};
+ghost use Rattle.pages.specs.Model.{line_model, parts_model};
+ghost use Rattle.pages.specs.Formed.{slots_at, source_stands, shown_stands, line_stands, line_formed, screens_formed, lines_formed, start_formed, well_formed};
 
-use crate::{Line, LineKind, Name, Screen, Source};
-use lists::predicate::{Predicate, all};
+use crate::{Line, LineKind, Parts, Screen, Source};
 
 // How many slots a screen has; 0 where the page has no such screen.
 fn slots_of(screens: &[Screen], screen: u8) -> u8
     ensures { result ≡ slots_at screens.now screen }
 {
-    if (screen as usize) < screens.len() {
-        screens[screen as usize].slots
-    } else {
-        0
-    }
+    screens.get(usize::from(screen)).map_or(0, |s| s.slots)
 }
 
+// Of a line out of a screen with so many slots. Its kind and that number go together through three questions; a struct
+// of both would be made only to be taken apart in each.
 fn shown_stands(kind: LineKind, slots: u8) -> bool
     ensures { result ≡ shown_stands kind slots }
 {
@@ -27,23 +25,20 @@ fn shown_stands(kind: LineKind, slots: u8) -> bool
     }
 }
 
-// The sources that a line of this kind may have, out of a screen with so many slots.
-#[derive(Clone, Copy)]
-struct SourceStands {
-    kind: LineKind,
-    slots: u8,
+// Whether a line of this kind may have the source, out of a screen with so many slots.
+fn source_stands(kind: LineKind, slots: u8, source: Source) -> bool
+    ensures { result ≡ source_stands kind slots source }
+{
+    match source {
+        Source::Kept(slot) => slot.0 < slots,
+        Source::Taken => kind == LineKind::Take,
+    }
 }
 
-impl Predicate<Source> for SourceStands {
-    ghost passes = { λ s x. source_stands s.kind s.slots x };
-
-    fn test(&self, source: &Source) -> bool {
-        match (*source, self.kind) {
-            (Source::Kept(slot), _) => slot.0 < self.slots,
-            (Source::Taken, LineKind::Take) => true,
-            (Source::Taken, LineKind::Show(_)) => false,
-        }
-    }
+fn sources_stand(kind: LineKind, slots: u8, sources: &[Source]) -> bool
+    ensures { result ≡ every (source_stands kind slots) sources.now }
+{
+    sources.iter().all(|s| source_stands(kind, slots, *s))
 }
 
 // Do both screens exist, do the shown slot and the slot sources exist in the screen left, is the taken value a source
@@ -53,85 +48,49 @@ pub fn stands(line: &Line, screens: &[Screen]) -> bool
 {
     let slots = slots_of(screens, line.from);
     let sources = line.sources.as_slice();
-    if (line.from as usize) >= screens.len() || (line.next as usize) >= screens.len() {
-        return false;
+    usize::from(line.from) < screens.len()
+        && usize::from(line.next) < screens.len()
+        && shown_stands(line.kind, slots)
+        && sources_stand(line.kind, slots, sources)
+        && sources.len() == usize::from(slots_of(screens, line.next))
+}
+
+fn line_formed(screens: &[Screen], line: &Line) -> bool
+    ensures { result ≡ line_formed screens.now (line_model line.now) }
+{
+    line.port.0 <= 31 && stands(line, screens)
+}
+
+impl Parts {
+    fn lines_formed(&self) -> bool
+        ensures { result ≡ lines_formed (held self.now.screens) (map line_model (held self.now.lines)) }
+    {
+        let screens = self.screens.as_slice();
+        let lines = self.lines.as_slice();
+        lines.len() <= 128 && lines.iter().all(|l| line_formed(screens, l))
     }
-    shown_stands(line.kind, slots)
-        && all(
-            &SourceStands {
-                kind: line.kind,
-                slots,
-            },
-            sources,
-        )
-        && sources.len() == slots_of(screens, line.next) as usize
-}
 
-#[derive(Clone, Copy)]
-struct LineFormed<'a> {
-    screens: &'a [Screen],
-}
-
-impl Predicate<Line> for LineFormed<'_> {
-    ghost passes = { λ s l. line_formed s.screens.now (line_model l) };
-
-    fn test(&self, line: &Line) -> bool {
-        line.port.0 <= 31 && stands(line, self.screens)
+    fn screens_formed(&self) -> bool
+        ensures { result ≡ screens_formed (held self.now.screens) }
+    {
+        let screens = self.screens.as_slice();
+        (1..=32).contains(&screens.len()) && screens.iter().all(|s| s.slots <= 4)
     }
-}
 
-#[derive(Clone, Copy)]
-struct FewSlots;
-
-impl Predicate<Screen> for FewSlots {
-    ghost passes = { λ _ s. few_slots s };
-
-    fn test(&self, screen: &Screen) -> bool {
-        screen.slots <= 4
+    fn start_formed(&self) -> bool
+        ensures { result ≡ start_formed (held self.now.screens) self.now.start (held self.now.numbers) }
+    {
+        let screens = self.screens.as_slice();
+        let numbers = self.numbers.as_slice();
+        usize::from(self.start) < screens.len()
+            && numbers.len() == usize::from(slots_of(screens, self.start))
+            && numbers.iter().all(|n| n.0 <= 7)
     }
-}
 
-#[derive(Clone, Copy)]
-struct SmallNumber;
-
-impl Predicate<Name> for SmallNumber {
-    ghost passes = { λ _ n. small_number n };
-
-    fn test(&self, number: &Name) -> bool {
-        number.0 <= 7
+    // Whether these parts make a well-formed page.
+    pub(crate) fn is_formed(&self) -> bool
+        ensures { result ≡ well_formed (parts_model self.now) }
+    {
+        self.screens_formed() && self.lines_formed() && self.start_formed()
     }
-}
-
-fn each_line_formed(screens: &[Screen], lines: &[Line]) -> bool
-    ensures { result ≡ every (line_formed screens.now) (map line_model lines.now) }
-{
-    all(&LineFormed { screens }, lines)
-}
-
-fn lines_formed(screens: &[Screen], lines: &[Line]) -> bool
-    ensures { result ≡ lines_formed screens.now (map line_model lines.now) }
-{
-    lines.len() <= 128 && each_line_formed(screens, lines)
-}
-
-fn screens_formed(screens: &[Screen]) -> bool
-    ensures { result ≡ screens_formed screens.now }
-{
-    let count = screens.len();
-    1 <= count && count <= 32 && all(&FewSlots, screens)
-}
-
-fn start_formed(screens: &[Screen], start: u8, numbers: &[Name]) -> bool
-    ensures { result ≡ start_formed screens.now start numbers.now }
-{
-    (start as usize) < screens.len()
-        && numbers.len() == slots_of(screens, start) as usize
-        && all(&SmallNumber, numbers)
-}
-
-// Whether these parts make a well-formed page.
-pub(crate) fn is_formed(screens: &[Screen], lines: &[Line], start: u8, numbers: &[Name]) -> bool
-    ensures { result ≡ well_formed (record { screens = screens.now; lines = map line_model lines.now; start = start; numbers = numbers.now }) }
-{
-    screens_formed(screens) && lines_formed(screens, lines) && start_formed(screens, start, numbers)
 }

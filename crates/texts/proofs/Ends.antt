@@ -1,7 +1,6 @@
 -- What the end of a text's first line says of its lines.
-use Rattle.std.proofs.Common.{◌≡◌, ℕ, suc, ◌+◌, ◌<◌, Bool, true, false, cond, eqb, List, [], ◌∷◌, length, take, drop, IfSome, Some, None, Option, sym, refl, ap, ◌∙◌, add-one, arith}
+use Rattle.std.proofs.Common.{◌≡◌, ℕ, suc, ◌+◌, ◌<◌, Bool, true, false, cond, eqb, List, [], ◌∷◌, length, take, drop, IfSome, Some, None, Option, sym, refl, ap, subst, add-one, arith}
 use Rattle.std.specs.Option.{option_map}
-use Rattle.values.proofs.Searched.{place_good}
 use Rattle.texts.specs.Lines.{last, ended, longer, lines_of, ended_at}
 
 -- a text's lines, by where its first line ends
@@ -24,21 +23,12 @@ split (b ∷ bs) = split_more b bs (eqb 10 b) (ended_at bs) (split bs)
 
 -- the same, from what the search for the end answered
 pub split_at : (t : List ℕ) (n : ℕ) → Some n ≡ ended_at t → lines_of t ≡ ended (take n t) (lines_of (drop (n + 1) t))
-split_at t n e = go (ended_at t) (split t) e
-  where
-    go : (o : Option ℕ) → Split t o → Some n ≡ o → lines_of t ≡ ended (take n t) (lines_of (drop (n + 1) t))
-    go (Some m) h is = let same : n ≡ m = cc in
-        h.0 ∙ ap (λ k. ended (take k t) (lines_of (drop (suc k) t))) (sym same) ∙ ap (λ k. ended (take n t) (lines_of (drop k t))) (sym (add-one n))
-    go None h is = let z : ◌≡◌ {A = ℕ} 0 1 = cc in absurd (omega arith)
+split_at t n e = rw add-one (subst (Split t) (sym e) (split t)).0
 
 pub unsplit : (t : List ℕ) → None ≡ ended_at t → lines_of t ≡ last t
-unsplit t e = go (ended_at t) (split t) e
-  where
-    go : (o : Option ℕ) → Split t o → None ≡ o → lines_of t ≡ last t
-    go None h is = h
-    go (Some m) h is = let z : ◌≡◌ {A = ℕ} 0 1 = cc in absurd (omega arith)
+unsplit t e = subst (Split t) (sym e) (split t)
 
 -- the end stands within the text
 pub end_within : (t : List ℕ) (o : Option ℕ) → o ≡ ended_at t → IfSome o (λ n. n < length t)
 end_within t None e = tt
-end_within t (Some n) e = (place_good (eqb 10) t n 0 e).0
+end_within t (Some n) e = (subst (Split t) (sym e) (split t)).1

@@ -1,5 +1,5 @@
 pub mod Pairs
+pub mod Cut
 pub mod Ends
-pub mod Cutting
 pub mod Asked
 pub mod Trips

@@ -1,29 +1,21 @@
 -- What is read is written again as it was, and what is written is read again: digits, bytes and lines.
-use Rattle.std.proofs.Common.{◌≡◌, ℕ, ◌+◌, ◌*◌, ◌/◌, ◌%◌, ◌<◌, ◌≤◌, Bool, true, false, cond, eqb, leb, List, [], ◌∷◌, ◌++◌, length, is_some, Some, None, Ok, Option, unwrap_or, refl, ap, ◌∙◌, arith}
+use Rattle.std.proofs.Common.{◌≡◌, ℕ, ◌+◌, ◌*◌, ◌/◌, ◌%◌, ◌<◌, ◌≤◌, Bool, true, false, cond, eqb, leb, List, [], ◌∷◌, ◌++◌, length, Ok, refl, ap, ◌∙◌, arith}
 use Rattle.std.proofs.lemmas.Bool.Decides.{nat_tests}
-use Rattle.std.proofs.lemmas.Bool.{and_parts, and_from, eqb-true, eq-eqb, false≢true, le-leb, leb-true}
-use Rattle.lists.specs.Between.{between}
+use Rattle.std.proofs.lemmas.Bool.{and_parts, and_from, eqb-true, leb-true}
 use Rattle.lists.specs.Every.{every}
 use Rattle.texts.specs.declared.faults.TextQuestion.TheVariants.{Digits, Count}
 use Rattle.texts.specs.Answers.{asked}
-use Rattle.texts.specs.Digits.{digit, is_digit, value, bytes_of, char, hex, hexes, line_text}
+use Rattle.texts.specs.Digits.{is_digit, value, bytes_of, char, hex, hexes, line_text}
 use Rattle.texts.specs.Lines.{Lines, last, ended, longer, lines_of}
 use Rattle.texts.specs.Reading.{text_fault, well_counted, line_bytes}
 use Rattle.texts.proofs.Asked.{asked_ok, asked_yes}
 
-some_of : (o : Option ℕ) → is_some o ≡ true → (v : ℕ) × (o ≡ Some v)
-some_of (Some v) e = (v, refl)
-some_of None e = absurd (false≢true e)
-
 -- digits
-digit_back : (b v : ℕ) → digit b ≡ Some v → (char v ≡ b) × (v < 16)
-digit_back b v e = (grind (arith, nat_tests), grind (arith, nat_tests))
+digit_back : (b : ℕ) → is_digit b ≡ true → (char (value b) ≡ b) × (value b < 16)
+digit_back b e = (grind (arith, nat_tests), grind (arith, nat_tests))
 
-char_back : (v : ℕ) → v < 16 → digit (char v) ≡ Some v
-char_back v h = grind (arith, nat_tests)
-
-value_is : (b v : ℕ) → digit b ≡ Some v → value b ≡ v
-value_is b v e = ap (λ o. unwrap_or o 0) e
+char_back : (v : ℕ) → v < 16 → (is_digit (char v) ≡ true) × (value (char v) ≡ v)
+char_back v h = (grind (arith, nat_tests), grind (arith, nat_tests))
 
 hex_is : (a b v w : ℕ) → char v ≡ a → char w ≡ b → v < 16 → w < 16 → hex (16 * v + w) ≡ a ∷ b ∷ []
 hex_is a b v w ea eb hv hw =
@@ -38,38 +30,31 @@ hexes_back (a ∷ []) d e = absurd (omega arith)
 hexes_back (a ∷ b ∷ r) d e =
     let da = and_parts (is_digit a) (every is_digit (b ∷ r)) d in
     let db = and_parts (is_digit b) (every is_digit r) da.1 in
-    let x = some_of (digit a) da.0 in
-    let y = some_of (digit b) db.0 in
-    let p = digit_back a x.0 x.1 in
-    let q = digit_back b y.0 y.1 in
+    let p = digit_back a da.0 in
+    let q = digit_back b db.0 in
     let more : length r % 2 ≡ 0 = omega arith in
-    (λ i. hex (16 * value_is a x.0 x.1 i + value_is b y.0 y.1 i) ++ hexes_back r db.1 more i)
-    ∙ ap (λ l. l ++ r) (hex_is a b x.0 y.0 p.0 q.0 p.1 q.1)
+    ap (λ l. hex (16 * value a + value b) ++ l) (hexes_back r db.1 more) ∙ ap (λ l. l ++ r) (hex_is a b (value a) (value b) p.0 q.0 p.1 q.1)
 
 pub line_bytes_back : (at : ℕ) (l bs : List ℕ) → line_bytes at l ≡ Ok bs → hexes bs ≡ l
 line_bytes_back at l bs e =
     let d = asked_ok (every is_digit l) (text_fault Digits at) (asked (well_counted l) (text_fault Count at) (Ok (bytes_of l))) bs e in
     let w = asked_ok (well_counted l) (text_fault Count at) (Ok (bytes_of l)) bs d.1 in
     let same : bs ≡ bytes_of l = cc w.1 in
-    ap hexes same ∙ hexes_back l d.0 (eqb-true (length l % 2) 0 (and_parts (between 2 32 (length l)) (eqb (length l % 2) 0) w.0).1)
+    ap hexes same ∙ hexes_back l d.0 (grind (arith, nat_tests, w.0))
 
 -- lines that are written
 abbrev pub is_byte : ℕ → Bool
 is_byte b = leb b 255
 
-byte_read : (b : ℕ) → is_byte b ≡ true → (digit (char (b / 16)) ≡ Some (b / 16)) × (digit (char (b % 16)) ≡ Some (b % 16))
-byte_read b e =
-    let h = leb-true b 255 e in
-    let hi : b / 16 < 16 = omega arith in
-    let lo : b % 16 < 16 = omega arith in
-    (char_back (b / 16) hi, char_back (b % 16) lo)
+byte_read : (b : ℕ) → is_byte b ≡ true → (b / 16 < 16) × (b % 16 < 16)
+byte_read b e = (omega (arith, leb-true b 255 e), omega arith)
 
 hexes_digits : (bs : List ℕ) → every is_byte bs ≡ true → every is_digit (hexes bs) ≡ true
 hexes_digits [] e = refl
 hexes_digits (b ∷ bs) e =
     let p = and_parts (is_byte b) (every is_byte bs) e in
     let r = byte_read b p.0 in
-    and_from (is_digit (char (b / 16))) _ (ap is_some r.0) (and_from (is_digit (char (b % 16))) _ (ap is_some r.1) (hexes_digits bs p.1))
+    and_from (is_digit (char (b / 16))) _ (char_back (b / 16) r.0).0 (and_from (is_digit (char (b % 16))) _ (char_back (b % 16) r.1).0 (hexes_digits bs p.1))
 
 pub hexes_length : (bs : List ℕ) → length (hexes bs) ≡ 2 * length bs
 hexes_length [] = refl
@@ -81,16 +66,14 @@ hexes_bytes (b ∷ bs) e =
     let p = and_parts (is_byte b) (every is_byte bs) e in
     let r = byte_read b p.0 in
     let whole : 16 * (b / 16) + b % 16 ≡ b = omega arith in
-    (λ i. (16 * value_is (char (b / 16)) (b / 16) r.0 i + value_is (char (b % 16)) (b % 16) r.1 i) ∷ hexes_bytes bs p.1 i)
+    (λ i. (16 * (char_back (b / 16) r.0).1 i + (char_back (b % 16) r.1).1 i) ∷ hexes_bytes bs p.1 i)
     ∙ ap (λ n. n ∷ bs) whole
 
 pub line_bytes_of : (at : ℕ) (bs : List ℕ) → every is_byte bs ≡ true → 1 ≤ length bs → length bs ≤ 16 → line_bytes at (hexes bs) ≡ Ok bs
 line_bytes_of at bs e low high =
-    let n = hexes_length bs in
-    let even : length (hexes bs) % 2 ≡ 0 = omega (arith, n) in
+    let counted : well_counted (hexes bs) ≡ true = grind (arith, nat_tests, hexes_length bs) in
     asked_yes (every is_digit (hexes bs)) (text_fault Digits at) _ (hexes_digits bs e)
-    ∙ asked_yes (well_counted (hexes bs)) (text_fault Count at) _
-    (and_from (between 2 32 (length (hexes bs))) _ (and_from (leb 2 (length (hexes bs))) _ (le-leb 2 _ (omega (arith, n))) (le-leb _ 32 (omega (arith, n)))) (eq-eqb _ 0 even))
+    ∙ asked_yes (well_counted (hexes bs)) (text_fault Count at) _ counted
     ∙ ap Ok (hexes_bytes bs e)
 
 -- the text of lines

@@ -1,5 +1,6 @@
 -- Bytes as pairs of hexadecimal digits, and back.
 use Rattle.std.specs.Prelude.{ℕ, ◌+◌, ◌-◌, ◌*◌, ◌/◌, ◌%◌, Bool, cond, List, [], ◌∷◌, ◌++◌, is_some, Some, None, Option, nat_lt}
+use Rattle.std.specs.List.{flat_map}
 use Rattle.std.specs.Option.{unwrap_or}
 use Rattle.lists.specs.Between.{between}
 
@@ -27,8 +28,7 @@ abbrev pub hex : ℕ → List ℕ
 hex b = char (b / 16) ∷ char (b % 16) ∷ []
 
 abbrev pub hexes : List ℕ → List ℕ
-hexes [] = []
-hexes (b ∷ bs) = hex b ++ hexes bs
+hexes bs = flat_map hex bs
 
 -- bytes as a line of a text
 abbrev pub line_text : List ℕ → List ℕ

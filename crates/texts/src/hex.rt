@@ -1,5 +1,6 @@
 // Bytes as pairs of hexadecimal digits.
 ghost use Rattle.std.specs.Prelude.{◌≡◌, ℕ, ◌<◌, ◌≤◌, List, [], ◌∷◌, ◌++◌, length, take};
+ghost use Rattle.lists.specs.Every.{every};
 ghost use Rattle.lists.specs.Held.{held};
 ghost use Rattle.texts.specs.Answers.{mapped};
 ghost use Rattle.texts.specs.Digits.{digit, is_digit, value, bytes_of, char, hexes, line_text};
@@ -7,9 +8,8 @@ ghost use Rattle.texts.specs.Reading.{line_bytes};
 
 use crate::faults::{TextFault, TextQuestion};
 use lists::BoundedVec;
-use lists::predicate::{Predicate, all};
 
-// The value of a digit 0 to 9 or A to F.
+// The value of a digit 0 to 9 or A to F. `to_digit` would take small letters too.
 fn hex_digit(b: u8) -> Option<u8>
     ensures { result ≡ digit b }
 {
@@ -20,15 +20,10 @@ fn hex_digit(b: u8) -> Option<u8>
     }
 }
 
-#[derive(Clone, Copy)]
-struct IsDigit;
-
-impl Predicate<u8> for IsDigit {
-    ghost passes = { λ _ b. is_digit b };
-
-    fn test(&self, b: &u8) -> bool {
-        hex_digit(*b).is_some()
-    }
+fn all_digits(line: &[u8]) -> bool
+    ensures { result ≡ every is_digit line.now }
+{
+    line.iter().all(|b| hex_digit(*b).is_some())
 }
 
 // The value of a digit, 0 of any other byte.
@@ -36,10 +31,7 @@ fn hex_value(b: u8) -> u8
     ensures is { result ≡ value b }
     ensures small { result < 16 }
 {
-    match hex_digit(b) {
-        Some(v) => v,
-        None => 0,
-    }
+    hex_digit(b).unwrap_or(0)
 }
 
 // The bytes of up to 32 digits.
@@ -47,11 +39,10 @@ fn pairs(line: &[u8]) -> BoundedVec<u8, 16>
     requires { length line.now ≤ 32 }
     ensures { held result ≡ bytes_of line.now }
 {
+    let (pairs, _) = line.as_chunks::<2>();
     let mut bytes = BoundedVec::new(0);
-    let mut left = line;
-    while let [a, b, rest @ ..] = left {
-        let _ = bytes.push(hex_value(*a) * 16 + hex_value(*b));
-        left = rest;
+    for [high, low] in pairs {
+        let _ = bytes.push(hex_value(*high) * 16 + hex_value(*low));
     }
     bytes
 }
@@ -60,23 +51,17 @@ fn pairs(line: &[u8]) -> BoundedVec<u8, 16>
 pub(crate) fn line_bytes(line: &[u8], at: usize) -> Result<BoundedVec<u8, 16>, TextFault>
     ensures { mapped held result ≡ line_bytes at line.now }
 {
-    if !all(&IsDigit, line) {
-        return Err(TextFault {
-            question: TextQuestion::Digits,
-            line: at,
-        });
+    if !all_digits(line) {
+        return Err(TextQuestion::Digits.at(at));
     }
     let digits = line.len();
-    if digits < 2 || digits > 32 || digits % 2 != 0 {
-        return Err(TextFault {
-            question: TextQuestion::Count,
-            line: at,
-        });
+    if !(2..=32).contains(&digits) || digits % 2 != 0 {
+        return Err(TextQuestion::Count.at(at));
     }
     Ok(pairs(line))
 }
 
-// The digit of a value below 16.
+// The digit of a value below 16: a capital, where `from_digit` would give a small letter.
 fn hex_char(value: u8) -> u8
     requires { value < 16 }
     ensures { result ≡ char value }

@@ -1,7 +1,6 @@
 // Texts and their lines.
 ghost use Rattle.std.specs.Prelude.{◌≡◌, ℕ, ◌+◌, ◌<◌, ◌≤◌, length, drop, IfSome, IfOk};
 ghost use Rattle.std.specs.Option.{option_map as option_mapped};
-ghost use Rattle.std.specs.List.{slice_get};
 ghost use Rattle.lists.specs.Held.{held};
 ghost use Rattle.texts.specs.Answers.{mapped};
 ghost use Rattle.texts.specs.Lines.{ended_at, lines_of, pieces, line_at};
@@ -25,10 +24,7 @@ pub fn check_length(text: &[u8]) -> Result<(), TextFault>
     ensures { result ≡ short_enough text.now }
 {
     if text.len() > 4096 {
-        return Err(TextFault {
-            question: TextQuestion::Length,
-            line: 0,
-        });
+        return Err(TextQuestion::Length.at(0));
     }
     Ok(())
 }
@@ -38,13 +34,8 @@ pub fn take_bytes(text: &[u8], at: usize) -> Result<(BoundedVec<u8, 16>, usize),
     ensures is { mapped (λ p. (held p.0, lines_of (drop p.1 text.now))) result ≡ first_bytes at (lines_of text.now) }
     ensures within { IfOk result (λ p. (0 < p.1) × (p.1 ≤ length text.now)) }
 {
-    let Some(n) = line_end(text) else {
-        return Err(TextFault {
-            question: TextQuestion::Ended,
-            line: at,
-        });
-    };
-    let bytes = line_bytes(&text[0..n], at)?;
+    let n = line_end(text).ok_or(TextQuestion::Ended.at(at))?;
+    let bytes = line_bytes(&text[..n], at)?;
     Ok((bytes, n + 1))
 }
 
@@ -52,53 +43,27 @@ pub fn take_bytes(text: &[u8], at: usize) -> Result<(BoundedVec<u8, 16>, usize),
 pub fn count_lines(text: &[u8]) -> usize
     ensures { result ≡ length (pieces (lines_of text.now)) }
 {
-    let mut count = 0;
-    let mut rest = text;
-    while let Some(n) = line_end(rest) {
-        count += 1;
-        rest = &rest[n + 1..];
-    }
-    if rest.is_empty() { count } else { count + 1 }
-}
-
-// The first line without its 0A; a last piece of one byte or more is a line too.
-fn first_piece(text: &[u8]) -> Option<&[u8]>
-    ensures { option_mapped (λ l. l.now) result ≡ slice_get (pieces (lines_of text.now)) 0 }
-{
-    match line_end(text) {
-        Some(n) => Some(&text[0..n]),
-        None => if text.is_empty() { None } else { Some(text) },
-    }
+    text.split_inclusive(|b| *b == 0x0A).count()
 }
 
 // The line with this number, counted from 1.
 fn numbered(text: &[u8], number: usize) -> Option<&[u8]>
     ensures { option_mapped (λ l. l.now) result ≡ line_at (lines_of text.now) number }
 {
-    if number == 0 {
-        return None;
-    }
-    let mut rest = text;
-    for _i in 1..number {
-        let Some(n) = line_end(rest) else {
-            return None;
-        };
-        rest = &rest[n + 1..];
-    }
-    first_piece(rest)
+    let line = text
+        .split_inclusive(|b| *b == 0x0A)
+        .nth(number.checked_sub(1)?)?;
+    Some(line.strip_suffix(&[0x0A]).unwrap_or(line))
 }
 
-// Is the side 0 (left) or 1 (right)?
+// Is the side 0 (left) or 1 (right)? It comes as a number, since a caller may ask for any, and question 10 refuses the rest.
 fn side_text<'a>(left: &'a [u8], right: &'a [u8], side: u8) -> Result<&'a [u8], TextFault>
     ensures { mapped (λ t. t.now) result ≡ by_side left.now right.now side }
 {
     match side {
         0 => Ok(left),
         1 => Ok(right),
-        _ => Err(TextFault {
-            question: TextQuestion::Side,
-            line: 0,
-        }),
+        _ => Err(TextQuestion::Side.at(0)),
     }
 }
 
@@ -112,8 +77,5 @@ pub fn line<'a>(
     ensures { mapped (λ l. l.now) result ≡ line_answer left.now right.now side number }
 {
     let text = side_text(left, right, side)?;
-    match numbered(text, number) {
-        Some(l) => Ok(l),
-        None => Err(LineFault::Missing),
-    }
+    numbered(text, number).ok_or(LineFault::Missing)
 }

@@ -29,6 +29,6 @@ pub fn lay<const N: usize>(text: &BoundedVec<u8, N>, out: &mut [u8]) -> Result<u
     if n > out.len() {
         return Err(OutputFault::TooShort);
     }
-    out[0..n].copy_from_slice(text.as_slice());
+    out[..n].copy_from_slice(text.as_slice());
     Ok(n)
 }

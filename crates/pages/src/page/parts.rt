@@ -1,38 +1,21 @@
 // A page from its parts, and its parts again.
-ghost use Rattle.std.specs.Prelude.{◌≡◌, cond, map, Some, None};
+ghost use Rattle.std.specs.Prelude.{◌≡◌, map};
 ghost use Rattle.std.specs.Option.{option_map};
-ghost use Rattle.lists.specs.Held.{held};
-ghost use Rattle.pages.specs.Model.{line_model};
-ghost use Rattle.pages.specs.Formed.{well_formed, formed_page};
+ghost use Rattle.pages.specs.Model.{line_model, parts_model};
+ghost use Rattle.pages.specs.Formed.{formed_page};
 ghost use Rattle.pages.specs.Stored.{page_model};
 
 use super::Page;
-use crate::forming::is_formed;
-use crate::{Line, Name, Screen};
-use lists::BoundedVec;
+use crate::{Line, Name, Parts, Screen};
 
 impl Page {
     // The page with these parts, if they make a well-formed one.
-    pub fn new(
-        screens: BoundedVec<Screen, 32>,
-        lines: BoundedVec<Line, 128>,
-        start: u8,
-        numbers: BoundedVec<Name, 4>,
-    ) -> Option<Page>
-        ensures { option_map page_model result ≡ formed_page (record { screens = held screens; lines = map line_model (held lines); start = start; numbers = held numbers }) }
+    pub fn new(parts: Parts) -> Option<Page>
+        ensures { option_map page_model result ≡ formed_page (parts_model parts) }
     {
-        if is_formed(
-            screens.as_slice(),
-            lines.as_slice(),
-            start,
-            numbers.as_slice(),
-        ) {
-            Some(Page {
-                screens,
-                lines,
-                start,
-                numbers,
-            })
+        // Not `then`: its closure would have to require again what the field `formed` says.
+        if parts.is_formed() {
+            Some(Page { parts })
         } else {
             None
         }
@@ -41,26 +24,26 @@ impl Page {
     pub fn screens(&self) -> &[Screen]
         ensures { result.now ≡ (page_model self.now).screens }
     {
-        self.screens.as_slice()
+        self.parts.screens.as_slice()
     }
 
     pub fn lines(&self) -> &[Line]
         ensures { map line_model result.now ≡ (page_model self.now).lines }
     {
-        self.lines.as_slice()
+        self.parts.lines.as_slice()
     }
 
     // The screen that it starts on.
     pub fn start(&self) -> u8
         ensures { result ≡ (page_model self.now).start }
     {
-        self.start
+        self.parts.start
     }
 
     // The start numbers, one for each slot of the start screen.
     pub fn numbers(&self) -> &[Name]
         ensures { result.now ≡ (page_model self.now).numbers }
     {
-        self.numbers.as_slice()
+        self.parts.numbers.as_slice()
     }
 }

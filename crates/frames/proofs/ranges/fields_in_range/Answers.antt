@@ -1,23 +1,14 @@
-use Rattle.std.proofs.Common.{sym, ◌∙◌}
-use Rattle.frames.proofs.Ranged.{field_here, fields_end, in_range_by}
+use Rattle.std.proofs.Common.{rules, ◌∙◌}
+use Rattle.std.proofs.lemmas.Iterator.{YieldsList-from_slice}
+use Rattle.std.proofs.lemmas.Iterator.Adapters.{YieldsList-from_skip}
+use Rattle.std.proofs.lemmas.Iterator.Consumers.{YieldsList-from_enumerate}
+use Rattle.std.proofs.lemmas.Iterator.Search.{all_from_yields_List}
+use Rattle.frames.specs.Ranges.{field_ok}
+use Rattle.frames.proofs.Ranged.{in_range_by}
 use Rattle.frames.proofs.ranges.fields_in_range.Goals as goal
-
-pub returns-then-not-field_in_range : goal.returns-then-not-field_in_range
-returns-then-not-field_in_range c =
-    let f = c.byte_at-frame.result in
-    let k = c.byte_at-kind.result in
-    let bs = c.args.bytes.now in
-    sym (field_here f k bs c.loop-place.place _ c.loop-place-test.true c.if-not-field_in_range.ensures)
-    ∙ sym c.loop-place.invariant ∙ in_range_by f k bs c.byte_at-frame.ensures c.byte_at-kind.ensures
-
-pub loop-place-preserved : goal.loop-place-preserved
-loop-place-preserved c =
-    c.loop-place.invariant ∙ field_here c.byte_at-frame.result c.byte_at-kind.result c.args.bytes.now c.loop-place.place _ c.loop-place-test.true c.if-not-field_in_range.ensures
 
 pub returns : goal.returns
 returns c =
-    let f = c.byte_at-frame.result in
-    let k = c.byte_at-kind.result in
-    let bs = c.args.bytes.now in
-    sym (fields_end f k bs c.loop-place.place c.loop-place-test.false)
-    ∙ sym c.loop-place.invariant ∙ in_range_by f k bs c.byte_at-frame.ensures c.byte_at-kind.ensures
+    all_from_yields_List (λ p. field_ok c.byte_at-frame.result c.byte_at-kind.result p.0 p.1) _ _ c.all.result c.all.ensures.ran
+    (YieldsList-from_skip 1 (YieldsList-from_enumerate (YieldsList-from_slice c.args.bytes.now cc) cc) cc) (λ x b q k. search rules)
+    ∙ in_range_by _ _ _ c.byte_at-frame.ensures c.byte_at-kind.ensures

@@ -1,17 +1,16 @@
-use Rattle.std.proofs.Common.{◌-◌, sym, ◌∙◌, arith}
-use Rattle.texts.specs.Lines.{lines_of}
-use Rattle.texts.proofs.Cutting.{piece_later, piece_none, rest_shorter, line_from_one}
+use Rattle.std.proofs.Common.{Some, option_map, sym, ap, ◌∙◌, rules}
+use Rattle.std.proofs.lemmas.List.Sorted.{answers_always}
+use Rattle.texts.proofs.Cut.{line_at_nth, stripped, stripped_is}
 use Rattle.texts.proofs.lines.numbered.Goals as goal
 
-pub returns-in_default : goal.returns-in_default
-returns-in_default c =
-    sym (piece_none c.loop-i.rest.now (c.args.number - c.loop-i._i) c.in_default.ensures.is (omega arith))
-    ∙ c.loop-i.invariant.0 ∙ line_from_one (lines_of c.args.text.now) c.args.number (omega arith)
+pub returns-in_err-line : goal.returns-in_err-line
+returns-in_err-line c =
+    ap (option_map (λ l. l.now)) c.from_residual-in_err-line.ensures
+    ∙ sym (ap (option_map (λ l. stripped l.now)) c.in_err-line.was)
+    ∙ line_at_nth _ c.args.text.now c.args.number _ _ _ c.split_inclusive.ensures.rest (answers_always _ _ _ (λ f a r q k. search rules)) c.in_ok-checked_sub.ensures c.nth.ensures.ran
 
-pub loop-i-preserved : goal.loop-i-preserved
-loop-i-preserved c =
-    let t = c.loop-i.rest.now in
-    let told = c.in-Some.ensures in (
-      piece_later t c.in-Some.n told.is c.args.number c.loop-i._i c.loop-i-test.true ∙ c.loop-i.invariant.0,
-      omega (arith, rest_shorter t c.in-Some.n told.is told.within, c.loop-i.invariant.1),
-    )
+pub returns : goal.returns
+returns c =
+    ap (λ l. Some l.now) c.unwrap_or.ensures ∙ ap Some (stripped_is c.in_ok-line.line _ c.strip_suffix.ensures.cases)
+    ∙ sym (ap (option_map (λ l. stripped l.now)) c.in_ok-line.was)
+    ∙ line_at_nth _ c.args.text.now c.args.number _ _ _ c.split_inclusive.ensures.rest (answers_always _ _ _ (λ f a r q k. search rules)) c.in_ok-checked_sub.ensures c.nth.ensures.ran
