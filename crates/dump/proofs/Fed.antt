@@ -6,13 +6,14 @@ use Rattle.texts.specs.Answers.{after}
 use Rattle.texts.proofs.Asked.{asked_yes}
 use Rattle.pages.specs.declared.Screen.{Screen}
 use Rattle.pages.specs.Model.{LineModel, PageModel}
-use Rattle.pages.specs.Formed.{slots_at, line_stands, line_formed, small_number, screens_formed, lines_formed, start_formed, well_formed}
+use Rattle.pages.specs.Formed.{slots_at, line_stands, line_formed, well_formed}
 use Rattle.frames.specs.Model.{screen, line}
 use Rattle.dump.specs.declared.faults.PageQuestion.TheVariants.{Start, Line, Numbers}
 use Rattle.dump.specs.declared.reader.Due.TheVariants.{Screens}
 use Rattle.dump.specs.Due.{after_lines, after_screens}
 use Rattle.dump.specs.Steps.{page_fault, first_reader}
 use Rattle.dump.specs.Written.{frames_of}
+use Rattle.dump.proofs.Sounds.{parts}
 use Rattle.dump.proofs.Feeding.{fed, awaiting, grown, grown_none, due_lines, due_screens, some_screens, Started}
 
 -- lines in their turn
@@ -50,13 +51,9 @@ feed_screens (x ∷ ss) ls at q f s =
 
 pub feed_page : (at : ℕ) (p : PageModel) → well_formed p ≡ true → fed at first_reader (frames_of p) ≡ Ok p
 feed_page at p e =
-    let a = and_parts (screens_formed p.screens) _ e in
-    let b = and_parts (lines_formed p.screens p.lines) (start_formed p.screens p.start p.numbers) a.1 in
-    let some = (and_parts (leb 1 (length p.screens)) _ a.0).0 in
-    let start = and_parts (ltb p.start (length p.screens)) _ b.1 in
-    let numbers = (and_parts (eqb (length p.numbers) (slots_at p.screens p.start)) (every small_number p.numbers) start.1).0 in
+    let f = parts p e in
     let q : PageModel = record { screens = []; lines = []; start = p.start; numbers = p.numbers } in
     let rest = map screen p.screens ++ map line p.lines in
-    ap (λ r. after r (λ x. fed (at + 1) x rest)) (asked_yes (ltb p.start (length p.screens)) (page_fault Start at) (Ok (awaiting (Screens (length p.screens) (length p.lines)) q)) start.0)
-    ∙ ap (λ d. fed (at + 1) (awaiting d q) rest) (some_screens (length p.screens) (length p.lines) some)
-    ∙ feed_screens p.screens p.lines (at + 1) q (and_parts (leb (length p.lines) 128) (every (line_formed p.screens) p.lines) b.0).1 numbers
+    ap (λ r. after r (λ x. fed (at + 1) x rest)) (asked_yes (ltb p.start (length p.screens)) (page_fault Start at) (Ok (awaiting (Screens (length p.screens) (length p.lines)) q)) f.start)
+    ∙ ap (λ d. fed (at + 1) (awaiting d q) rest) (some_screens (length p.screens) (length p.lines) f.some)
+    ∙ feed_screens p.screens p.lines (at + 1) q f.lines f.count

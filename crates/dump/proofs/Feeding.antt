@@ -1,15 +1,16 @@
 -- The page layer over a list of frames: which frames it accepts, and as which page.
 use Rattle.std.proofs.Common.{◌≡◌, ℕ, zero, suc, ◌+◌, ◌-◌, Bool, true, false, cond, eqb, ltb, leb, List, [], ◌∷◌, ◌++◌, map, length, Ok, Result, sym, refl, ap, ◌∙◌, subst, append_assoc, append-nil, arith}
-use Rattle.std.proofs.lemmas.Bool.{and_parts, and_from, false≢true}
+use Rattle.std.proofs.lemmas.Bool.Decides.{nat_tests}
+use Rattle.std.proofs.lemmas.Bool.{and_parts, and_from, false≢true, ne_eqb}
 use Rattle.lists.specs.Between.{between}
 use Rattle.lists.specs.Every.{every}
 use Rattle.texts.specs.Answers.{asked, after}
-use Rattle.texts.proofs.Asked.{asked_ok, not_both}
+use Rattle.texts.proofs.Asked.{asked_ok}
 use Rattle.pages.specs.declared.Screen.{Screen}
 use Rattle.pages.specs.Model.{LineModel, PageModel}
-use Rattle.pages.specs.Formed.{slots_at, line_stands, line_formed, few_slots, screens_formed, lines_formed, well_formed}
+use Rattle.pages.specs.Formed.{slots_at, line_stands, line_formed, few_slots, well_formed}
 use Rattle.frames.specs.Model.{HeaderModel, FrameModel, header, screen, line}
-use Rattle.frames.specs.Bytes.{sound, kind_sound, name_sound}
+use Rattle.frames.specs.Bytes.{sound, kind_sound}
 use Rattle.dump.specs.declared.faults.PageFault.{PageFault}
 use Rattle.dump.specs.declared.faults.PageQuestion.TheVariants.{Start, Line, Numbers}
 use Rattle.dump.specs.declared.reader.Due.{Due}
@@ -17,7 +18,6 @@ use Rattle.dump.specs.declared.reader.Due.TheVariants.{Screens, Lines, Nothing}
 use Rattle.dump.specs.Due.{after_lines, after_screens}
 use Rattle.dump.specs.Steps.{ReaderModel, page_fault, first_reader, step, finish}
 use Rattle.dump.specs.Written.{frames_of}
-use Rattle.dump.proofs.Dues.{not_none}
 
 -- frames taken one after another, from the text line at on
 abbrev pub fed : ℕ → ReaderModel → List FrameModel → Result PageModel PageFault
@@ -38,6 +38,9 @@ grown_none q = λ i. record { screens = append-nil q.screens i; lines = append-n
 abbrev pub Started : PageModel → Type 0
 Started p = eqb (length p.numbers) (slots_at p.screens p.start) ≡ true
 
+not_none : (n : ℕ) → eqb (suc n) 0 ≡ false
+not_none n = ne_eqb (suc n) 0 (λ e. omega arith)
+
 pub due_lines : (n : ℕ) → after_lines (suc n) ≡ Lines (suc n)
 due_lines n = ap (λ t. cond t Nothing (Lines (suc n))) (not_none n)
 
@@ -47,7 +50,7 @@ due_screens n k = ap (λ t. cond t (after_lines k) (Screens (suc n) k)) (not_non
 -- a step that was accepted got a yes to its question
 step_on : (b : Bool) (e : PageFault) (r : ReaderModel) (K : ReaderModel → Result PageModel PageFault) (p : PageModel) → after (asked b e (Ok r)) K ≡ Ok p → (b ≡ true) × (K r ≡ Ok p)
 step_on true e r K p h = (refl, h)
-step_on false e r K p h = absurd (not_both e p h)
+step_on false e r K p h = cc
 
 -- what was accepted while n lines were awaited
 pub record LinesFed (q : PageModel) (n : ℕ) (fs : List FrameModel) (p : PageModel) : Type 0 where
@@ -79,12 +82,12 @@ lines_more q p l n fs here r =
 
 pub lines_fed : (fs : List FrameModel) (n at : ℕ) (q p : PageModel) → every sound fs ≡ true → fed at (awaiting (after_lines n) q) fs ≡ Ok p → LinesFed q n fs p
 lines_fed [] zero at q p s e = lines_over at q p e
-lines_fed [] (suc n) at q p s e = absurd (not_both _ p (ap (λ d. fed at (awaiting d q) []) (sym (due_lines n)) ∙ e))
-lines_fed (header h ∷ fs) zero at q p s e = absurd (not_both _ p e)
-lines_fed (screen x ∷ fs) zero at q p s e = absurd (not_both _ p e)
-lines_fed (line l ∷ fs) zero at q p s e = absurd (not_both _ p e)
-lines_fed (header h ∷ fs) (suc n) at q p s e = absurd (not_both _ p (ap (λ d. fed at (awaiting d q) (header h ∷ fs)) (sym (due_lines n)) ∙ e))
-lines_fed (screen x ∷ fs) (suc n) at q p s e = absurd (not_both _ p (ap (λ d. fed at (awaiting d q) (screen x ∷ fs)) (sym (due_lines n)) ∙ e))
+lines_fed [] (suc n) at q p s e = cc (due_lines n)
+lines_fed (header h ∷ fs) zero at q p s e = cc
+lines_fed (screen x ∷ fs) zero at q p s e = cc
+lines_fed (line l ∷ fs) zero at q p s e = cc
+lines_fed (header h ∷ fs) (suc n) at q p s e = cc (due_lines n)
+lines_fed (screen x ∷ fs) (suc n) at q p s e = cc (due_lines n)
 lines_fed (line l ∷ fs) (suc n) at q p s e =
     let q' : PageModel = record { screens = q.screens; lines = q.lines ++ l ∷ []; start = q.start; numbers = q.numbers } in
     let k = step_on (line_stands q.screens l) (page_fault Line at) (awaiting (after_lines (suc n - 1)) q') (λ r. fed (at + 1) r fs) p
@@ -139,9 +142,9 @@ screens_more q p x n k fs here r =
 
 pub screens_fed : (fs : List FrameModel) (n k at : ℕ) (q p : PageModel) → every sound fs ≡ true → fed at (awaiting (after_screens n k) q) fs ≡ Ok p → ScreensFed q n k fs p
 screens_fed fs zero k at q p s e = screens_over q p k fs (lines_fed fs k at q p s e)
-screens_fed [] (suc n) k at q p s e = absurd (not_both _ p (ap (λ d. fed at (awaiting d q) []) (sym (due_screens n k)) ∙ e))
-screens_fed (header h ∷ fs) (suc n) k at q p s e = absurd (not_both _ p (ap (λ d. fed at (awaiting d q) (header h ∷ fs)) (sym (due_screens n k)) ∙ e))
-screens_fed (line l ∷ fs) (suc n) k at q p s e = absurd (not_both _ p (ap (λ d. fed at (awaiting d q) (line l ∷ fs)) (sym (due_screens n k)) ∙ e))
+screens_fed [] (suc n) k at q p s e = cc (due_screens n k)
+screens_fed (header h ∷ fs) (suc n) k at q p s e = cc (due_screens n k)
+screens_fed (line l ∷ fs) (suc n) k at q p s e = cc (due_screens n k)
 screens_fed (screen x ∷ fs) (suc n) k at q p s e =
     let q' : PageModel = record { screens = q.screens ++ x ∷ []; lines = q.lines; start = q.start; numbers = q.numbers } in
     let two = and_parts (sound (screen x)) (every sound fs) s in
@@ -164,25 +167,17 @@ header_fed at h fs p s ss e =
     let q : PageModel = record { screens = []; lines = []; start = h.start; numbers = h.numbers } in
     let k = step_on (ltb h.start h.screens) (page_fault Start at) (awaiting (Screens h.screens h.lines) q) (λ r. fed (at + 1) r fs) p e in
     let a = and_parts (between 1 32 h.screens) _ s in
-    let b = and_parts (leb h.lines 128) _ a.1 in
-    let c = and_parts (every name_sound h.numbers) (leb (length h.numbers) 4) b.1 in
     let size = and_parts (leb 1 h.screens) (leb h.screens 32) a.0 in
     let r = screens_fed fs h.screens h.lines (at + 1) q p ss
     (ap (λ d. fed (at + 1) (awaiting d q) fs) (sym (some_screens h.screens h.lines size.0)) ∙ k.1) in
-    let page : PageModel = grown q r.more r.lines in
     let count = r.count in
     let lines = r.line_count in
-    subst (FedAs (header h ∷ fs)) (sym r.page) (
-      (λ i. header (record { screens = sym count i; lines = sym lines i; start = h.start; numbers = h.numbers }) ∷ r.frames i),
-      and_from (screens_formed r.more) _
-          (and_from (leb 1 (length r.more)) _ (ap (leb 1) count ∙ size.0) (and_from (leb (length r.more) 32) _ (ap (λ n. leb n 32) count ∙ size.1) r.few))
-          (and_from (lines_formed r.more r.lines) _
-          (and_from (leb (length r.lines) 128) _ (ap (λ n. leb n 128) lines ∙ b.0) r.formed)
-          (and_from (ltb h.start (length r.more)) _ (ap (ltb h.start) count ∙ k.0) (and_from (eqb (length h.numbers) (slots_at r.more h.start)) _ r.started c.0))),
-    )
+    let formed : well_formed (grown q r.more r.lines) ≡ true = grind (arith, nat_tests) in
+    subst (FedAs (header h ∷ fs)) (sym r.page)
+    (λ i. header (record { screens = sym count i; lines = sym lines i; start = h.start; numbers = h.numbers }) ∷ r.frames i, formed)
 
 pub fed_as : (at : ℕ) (fs : List FrameModel) (p : PageModel) → every sound fs ≡ true → fed at first_reader fs ≡ Ok p → FedAs fs p
-fed_as at [] p s e = absurd (not_both _ p e)
+fed_as at [] p s e = cc
 fed_as at (header h ∷ fs) p s e = let two = and_parts (sound (header h)) (every sound fs) s in header_fed at h fs p two.0 two.1 e
-fed_as at (screen x ∷ fs) p s e = absurd (not_both _ p e)
-fed_as at (line l ∷ fs) p s e = absurd (not_both _ p e)
+fed_as at (screen x ∷ fs) p s e = cc
+fed_as at (line l ∷ fs) p s e = cc

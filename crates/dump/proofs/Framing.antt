@@ -6,7 +6,7 @@ use Rattle.lists.specs.Every.{every}
 use Rattle.texts.specs.Answers.{after, lifted}
 use Rattle.texts.specs.Digits.{hexes}
 use Rattle.texts.specs.Lines.{Lines, last, ended, lines_of}
-use Rattle.texts.proofs.Asked.{after_ok, lifted_ok, not_both}
+use Rattle.texts.proofs.Asked.{after_ok, lifted_ok}
 use Rattle.texts.proofs.Trips.{is_byte, text_of, lines_of_line}
 use Rattle.pages.specs.Model.{PageModel}
 use Rattle.frames.specs.Model.{FrameModel}
@@ -30,7 +30,7 @@ pub record Framed (at : ℕ) (r : ReaderModel) (ls : Lines) (p : PageModel) : Ty
 
 pub framed : (at : ℕ) (r : ReaderModel) (ls : Lines) (p : PageModel) → run at r ls ≡ Ok p → Framed at r ls p
 framed at r (last []) p e = record { frames = []; text = refl; all_sound = refl; accepted = e }
-framed at r (last (b ∷ l)) p e = absurd (not_both _ p e)
+framed at r (last (b ∷ l)) p e = cc
 framed at r (ended l ls) p e =
     let k = after_ok (lifted Frame (line_frame at l)) (λ f. after (step at r f) (λ s. run (at + 1) s ls)) p e in
     let f = k.0 in

@@ -6,7 +6,7 @@ use Rattle.texts.specs.declared.faults.TextQuestion.TheVariants.{Length}
 use Rattle.texts.specs.Answers.{after, lifted}
 use Rattle.texts.specs.Lines.{lines_of}
 use Rattle.texts.specs.Reading.{text_fault, short_enough}
-use Rattle.texts.proofs.Asked.{asked_yes, after_ok, not_both}
+use Rattle.texts.proofs.Asked.{asked_yes, after_ok}
 use Rattle.texts.proofs.Trips.{lines_back}
 use Rattle.pages.specs.Model.{PageModel}
 use Rattle.pages.specs.Formed.{well_formed}
@@ -44,7 +44,7 @@ read_written p e = sym (run_answer (written p) tt (short_answer (written p) (wri
 
 pub exact : (text : List ℕ) (r : Result PageModel PageFault) → r ≡ read_answer text → Exact text r
 exact text (Ok p) e = read_dump text p (sym e)
-exact text (Err f) e = λ p d. not_both f p (e ∙ ap read_answer d.is ∙ read_written p d.formed)
+exact text (Err f) e = λ p d. cc (ap read_answer d.is, read_written p d.formed)
 
 pub one_dump : OneDump
 one_dump p e = (read_written p e, λ text h. (read_dump text p h).is)

@@ -1,4 +1,3 @@
-pub mod Dues
 pub mod Feeding
 pub mod Fed
 pub mod Sounds

@@ -1,5 +1,5 @@
 -- One line of a run, as the reader takes it.
-use Rattle.std.proofs.Common.{◌≡◌, ℕ, ◌+◌, ◌<◌, Bool, true, false, cond, eqb, List, [], ◌∷◌, length, Ok, Err, Result, sym, refl, ap, ◌∙◌, arith}
+use Rattle.std.proofs.Common.{◌≡◌, ℕ, ◌+◌, Bool, true, false, cond, eqb, List, [], ◌∷◌, length, Ok, Err, Result, sym, refl, ap, ◌∙◌, arith, true-eqb}
 use Rattle.texts.specs.Answers.{after, lifted}
 use Rattle.texts.specs.Lines.{Lines, last, ended, longer, lines_of}
 use Rattle.texts.specs.Reading.{line_bytes}
@@ -24,8 +24,8 @@ longer_some : (b : ℕ) (ls : Lines) → SomeLine (longer b ls)
 longer_some b (last l) = tt
 longer_some b (ended l ls) = tt
 
-some_line : (t : List ℕ) → 0 < length t → SomeLine (lines_of t)
-some_line [] h = absurd (omega arith)
+some_line : (t : List ℕ) → false ≡ eqb (length t) 0 → SomeLine (lines_of t)
+some_line [] h = cc
 some_line (b ∷ t) h = go (eqb 10 b)
   where
     go : (e : Bool) → SomeLine (cond e (ended [] (lines_of t)) (longer b (lines_of t)))
@@ -52,7 +52,7 @@ run_lines at r (last []) h = absurd h
 run_lines at r (last (b ∷ l)) h = refl
 run_lines at r (ended l ls) h = by_bytes at r ls (line_bytes at l)
 
-module _ (rest : List ℕ) (at : ℕ) (r : ReaderModel) (some : 0 < length rest) where
+module _ (rest : List ℕ) (at : ℕ) (r : ReaderModel) (some : false ≡ eqb (length rest) 0) where
   first_run : run at r (lines_of rest) ≡ after (lifted Frame (first_frame at (lines_of rest))) (onward at r)
   first_run = run_lines at r (lines_of rest) (some_line rest some)
 
@@ -62,6 +62,6 @@ module _ (rest : List ℕ) (at : ℕ) (r : ReaderModel) (some : 0 < length rest)
   pub step_run : (f : FrameModel) (ls : Lines) (x : Result ReaderModel PageFault) → Ok (f, ls) ≡ first_frame at (lines_of rest) → x ≡ step at r f → after x (λ s. run (at + 1) s ls) ≡ run at r (lines_of rest)
   step_run f ls x is to = ap (λ y. after y (λ s. run (at + 1) s ls)) to ∙ ap (λ y. after (lifted Frame y) (onward at r)) is ∙ sym first_run
 
-pub run_end : (rest : List ℕ) (at : ℕ) (r : ReaderModel) → length rest ≡ 0 → finish at r ≡ run at r (lines_of rest)
+pub run_end : (rest : List ℕ) (at : ℕ) (r : ReaderModel) → true ≡ eqb (length rest) 0 → finish at r ≡ run at r (lines_of rest)
 run_end [] at r h = refl
-run_end (b ∷ t) at r h = absurd (omega arith)
+run_end (b ∷ t) at r h = absurd (omega (arith, true-eqb (length (b ∷ t)) 0 h))

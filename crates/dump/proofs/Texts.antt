@@ -1,44 +1,40 @@
--- The text of a page, part by part.
-use Rattle.std.proofs.Common.{◌≡◌, ℕ, ◌≤◌, List, [], ◌∷◌, ◌++◌, map, length, take, sym, refl, ap, ◌∙◌, append_assoc}
-use Rattle.std.specs.List.{flat_map}
-use Rattle.std.proofs.lemmas.List.{take_all}
-use Rattle.lists.proofs.Extends.{emit_two}
+-- The text of a page, from the frames that its stored parts make.
+use Rattle.std.proofs.Common.{◌≡◌, ℕ, ◌≤◌, List, [], ◌∷◌, ◌++◌, map, length, take, flat_map, sym, ap, ◌∙◌}
+use Rattle.std.proofs.lemmas.List.{take_all, map-append, flat_map_more}
+use Rattle.std.proofs.lemmas.List.Folds.{flat_map-map}
+use Rattle.std.proofs.lemmas.Simd.{map-map}
+use Rattle.lists.proofs.Extends.{take_join}
 use Rattle.pages.specs.declared.Screen.{Screen}
 use Rattle.pages.specs.declared.Line.{Line}
 use Rattle.pages.specs.Model.{PageModel, line_model}
-use Rattle.frames.specs.Model.{HeaderModel, header, screen, line}
-use Rattle.dump.specs.Written.{header_of, frame_text, written}
+use Rattle.frames.specs.declared.Header.{Header}
+use Rattle.frames.specs.declared.Frame.{Frame}
+use Rattle.frames.specs.declared.Frame.TheVariants.{Header as OfHeader, Screen as OfScreen, Line as OfLine}
+use Rattle.frames.specs.Model.{header_model, frame_model, header, screen, line}
+use Rattle.dump.specs.Written.{header_of, frames_of, frame_text, written}
 
-joined_append : {X A : Type 0} (f : X → List A) (xs ys : List X) → flat_map f (xs ++ ys) ≡ flat_map f xs ++ flat_map f ys
-joined_append f [] ys = refl
-joined_append f (x ∷ xs) ys = ap (λ l. f x ++ l) (joined_append f xs ys) ∙ sym (append_assoc (f x) (flat_map f xs) (flat_map f ys))
+-- the frames of a stored page
+abbrev pub stored : Header → List Screen → List Line → List Frame
+stored h ss ls = OfHeader h ∷ (map OfScreen ss ++ map OfLine ls)
 
-joined_map : {X Y A : Type 0} (f : Y → List A) (g : X → Y) (xs : List X) → flat_map f (map g xs) ≡ flat_map (λ x. f (g x)) xs
-joined_map f g [] = refl
-joined_map f g (x ∷ xs) = ap (λ l. f (g x) ++ l) (joined_map f g xs)
+stored_frames : (p : PageModel) (h : Header) (ss : List Screen) (ls : List Line) → header_model h ≡ header_of p → ss ≡ p.screens → map line_model ls ≡ p.lines → map frame_model (stored h ss ls) ≡ frames_of p
+stored_frames p h ss ls eh es el =
+    ap (λ t. header (header_model h) ∷ t) (map-append frame_model (map OfScreen ss) (map OfLine ls))
+    ∙ (λ i. header (eh i) ∷ ((map-map frame_model OfScreen ss ∙ ap (map screen) es) i ++ (map-map frame_model OfLine ls ∙ sym (map-map line line_model ls) ∙ ap (map line) el) i))
 
-map_both : {X Y Z : Type 0} (f : Y → Z) (g : X → Y) (xs : List X) → map f (map g xs) ≡ map (λ x. f (g x)) xs
-map_both f g [] = refl
-map_both f g (x ∷ xs) = ap (λ l. f (g x) ∷ l) (map_both f g xs)
+-- the text of frames
+abbrev pub texts : List Frame → List ℕ
+texts fs = flat_map (λ f. frame_text (frame_model f)) fs
 
--- the dump of a page whose lines are stored
-parts : (p : PageModel) (ls : List Line) → map line_model ls ≡ p.lines
-    → frame_text (header (header_of p)) ++ (flat_map (λ s. frame_text (screen s)) p.screens ++ flat_map (λ l. frame_text (line (line_model l))) ls) ≡ written p
-parts p ls e =
-    ap (λ t. frame_text (header (header_of p)) ++ t)
-    ((λ i. sym (joined_map frame_text screen p.screens) i
-    ++ (sym (joined_map frame_text (λ l. line (line_model l)) ls) ∙ ap (flat_map frame_text) (sym (map_both line line_model ls) ∙ ap (map line) e)) i)
-    ∙ sym (joined_append frame_text (map screen p.screens) (map line p.lines)))
+pub one_more : (fs : List Frame) (f : Frame) (old new : List ℕ) → old ≡ take 4096 (texts fs) → new ≡ take 4096 (old ++ frame_text (frame_model f)) → new ≡ take 4096 (texts (fs ++ f ∷ []))
+one_more fs f old new before now =
+    now ∙ ap (λ l. take 4096 (l ++ frame_text (frame_model f))) before
+    ∙ take_join 4096 (texts fs) (frame_text (frame_model f))
+    ∙ ap (take 4096) (flat_map_more (λ g. frame_text (frame_model g)) [] fs f)
 
-pub page_text : (p : PageModel) (none a b out : List ℕ) (h : HeaderModel) (ss : List Screen) (ls : List Line)
-    → none ≡ [] → a ≡ take 4096 (none ++ frame_text (header h)) → b ≡ take 4096 (a ++ flat_map (λ s. frame_text (screen s)) ss)
-    → out ≡ take 4096 (b ++ flat_map (λ l. frame_text (line (line_model l))) ls)
-    → h ≡ header_of p → ss ≡ p.screens → map line_model ls ≡ p.lines → length (written p) ≤ 4096 → out ≡ written p
-page_text p none a b out h ss ls en ea eb eo eh es el short =
-    let x = frame_text (header h) in
-    let y = flat_map (λ s. frame_text (screen s)) ss in
-    let z = flat_map (λ l. frame_text (line (line_model l))) ls in
-    emit_two 4096 none b out (x ++ y) z (emit_two 4096 none a b x y ea eb) eo
-    ∙ ap (λ l. take 4096 (l ++ ((x ++ y) ++ z))) en
-    ∙ ap (take 4096) (append_assoc x y z ∙ (λ i. frame_text (header (eh i)) ++ (flat_map (λ s. frame_text (screen s)) (es i) ++ z)) ∙ parts p ls el)
+pub page_text : (p : PageModel) (fs : List Frame) (h : Header) (ss : List Screen) (ls : List Line) (out : List ℕ)
+    → out ≡ take 4096 (texts fs) → fs ≡ stored h ss ls
+    → header_model h ≡ header_of p → ss ≡ p.screens → map line_model ls ≡ p.lines → length (written p) ≤ 4096 → out ≡ written p
+page_text p fs h ss ls out eo ef eh es el short =
+    eo ∙ ap (take 4096) (ap texts ef ∙ sym (flat_map-map frame_text frame_model (stored h ss ls)) ∙ ap (flat_map frame_text) (stored_frames p h ss ls eh es el))
     ∙ take_all 4096 (written p) short

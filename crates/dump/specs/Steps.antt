@@ -1,9 +1,8 @@
 -- The page layer: how a frame is taken, and what is asked after the last.
-use Rattle.std.specs.Prelude.{ℕ, ◌-◌, Bool, true, false, [], ◌∷◌, ◌++◌, map, length, Ok, Err, Result, ◌==◌, nat_lt}
-use Rattle.lists.specs.Held.{held}
+use Rattle.std.specs.Prelude.{ℕ, ◌-◌, Bool, true, false, [], ◌∷◌, ◌++◌, length, Ok, Err, Result, ◌==◌, nat_lt}
 use Rattle.texts.specs.Answers.{asked}
 use Rattle.pages.specs.declared.Screen.{Screen}
-use Rattle.pages.specs.Model.{LineModel, PageModel, line_model}
+use Rattle.pages.specs.Model.{LineModel, PageModel, parts_model}
 use Rattle.pages.specs.Formed.{slots_at, line_stands}
 use Rattle.frames.specs.Model.{HeaderModel, FrameModel, header, screen, line}
 use Rattle.dump.specs.declared.faults.PageQuestion.{PageQuestion}
@@ -21,7 +20,7 @@ pub record ReaderModel : Type 0 where
   pub page : PageModel
 
 abbrev pub reader_model : Reader → ReaderModel
-reader_model r = record { due = r.due; page = record { screens = held r.screens; lines = map line_model (held r.lines); start = r.start; numbers = held r.numbers } }
+reader_model r = record { due = r.due; page = parts_model r.parts }
 
 abbrev pub first_reader : ReaderModel
 first_reader = record { due = Header; page = record { screens = []; lines = []; start = 0; numbers = [] } }

@@ -1,6 +1,7 @@
 // What the page layer refuses, with the lower layers' faults whole inside.
 ghost use Rattle.std.specs.Prelude.{◌≡◌};
 ghost use Rattle.dump.specs.Numbers.{fault_number, fault_line, fault_layer};
+ghost use Rattle.dump.specs.Steps.{page_fault};
 ghost use Rattle.dump.specs.declared.faults.PageFault.TheVariants.{Frame};
 
 use frames::faults::FrameFault;
@@ -15,6 +16,19 @@ pub enum PageQuestion {
     Numbers = 35,
 }
 
+impl PageQuestion {
+    // A no to this question at a text line.
+    pub(crate) fn at(self, line: usize) -> PageFault
+        ensures { result ≡ page_fault self line }
+    {
+        PageFault::Page {
+            question: self,
+            line,
+        }
+    }
+}
+
+// Its cases name the layers, which those of one enum for every layer could not.
 #[derive(Clone, Copy)]
 pub enum PageFault {
     Frame(FrameFault),
@@ -22,7 +36,7 @@ pub enum PageFault {
 }
 
 // The layer whose question got a no.
-#[derive(Clone, Copy)]
+#[derive(Clone, Copy, Debug, PartialEq, Eq)]
 pub enum Layer {
     Text,
     Frame,

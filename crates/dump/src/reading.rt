@@ -17,6 +17,7 @@ fn read_page(text: &[u8]) -> Result<Page, PageFault>
     let mut reader = Reader::new();
     let mut rest = text;
     let mut at = 1;
+    // A walk and no `for`: each frame says where the next line begins, and the number after the last line is asked too.
     while !rest.is_empty() {
         let (frame, taken) = take_frame(rest, at)?;
         reader.take(frame, at)?;

@@ -1,19 +1,18 @@
 // Writing: a page's dump in memory that the caller lends.
-ghost use Rattle.std.specs.Prelude.{◌≡◌, ℕ, ◌≤◌, ◌++◌, map, length, take, Ok};
-ghost use Rattle.std.specs.List.{flat_map};
+ghost use Rattle.std.specs.Prelude.{◌≡◌, ◌++◌, length, take, Ok};
 ghost use Rattle.lists.specs.Held.{held};
 ghost use Rattle.texts.specs.Outputs.{fitted, laid};
-ghost use Rattle.pages.specs.Model.{line_model};
 ghost use Rattle.pages.specs.Stored.{page_model};
-ghost use Rattle.frames.specs.Model.{frame_model, screen, line};
+ghost use Rattle.frames.specs.Model.{frame_model};
 ghost use Rattle.dump.specs.Reading.{read_answer};
-ghost use Rattle.dump.specs.Written.{frame_text, header_of, written};
+ghost use Rattle.dump.specs.Written.{frame_text, written};
 
 use frames::bytes::frame_bytes;
 use frames::{Frame, Header};
 use lists::BoundedVec;
+use pages::Name;
 use pages::page::Page;
-use pages::{Line, Name, Screen};
+use std::iter::once;
 use texts::hex::put_line;
 use texts::output::{OutputFault, lay};
 
@@ -24,22 +23,6 @@ fn put_frame(text: &mut Text, frame: &Frame)
     ensures { held text.new ≡ take 4096 (held text.old ++ frame_text (frame_model frame.now)) }
 {
     put_line(text, frame_bytes(frame).as_slice());
-}
-
-fn put_screens(text: &mut Text, screens: &[Screen])
-    ensures { held text.new ≡ take 4096 (held text.old ++ flat_map (λ s. frame_text (screen s)) screens.now) }
-{
-    for s in screens {
-        put_frame(text, &Frame::Screen(*s));
-    }
-}
-
-fn put_lines(text: &mut Text, lines: &[Line])
-    ensures { held text.new ≡ take 4096 (held text.old ++ flat_map (λ l. frame_text (line (line_model l))) lines.now) }
-{
-    for l in lines {
-        put_frame(text, &Frame::Line(*l));
-    }
 }
 
 fn page_text(page: &Page) -> Text
@@ -53,10 +36,12 @@ fn page_text(page: &Page) -> Text
         start: page.start(),
         numbers,
     };
+    let screens = page.screens().iter().map(|s| Frame::Screen(*s));
+    let lines = page.lines().iter().map(|l| Frame::Line(*l));
     let mut text = BoundedVec::new(0);
-    put_frame(&mut text, &Frame::Header(header));
-    put_screens(&mut text, page.screens());
-    put_lines(&mut text, page.lines());
+    for frame in once(Frame::Header(header)).chain(screens).chain(lines) {
+        put_frame(&mut text, &frame);
+    }
     text
 }
 

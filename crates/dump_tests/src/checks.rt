@@ -4,34 +4,28 @@ use dump::reading::read;
 use std::process::Abort;
 use std::test::Fail;
 
-fn layer_digit(layer: Layer) -> u8 {
-    match layer {
-        Layer::Text => 1,
-        Layer::Frame => 2,
-        Layer::Page => 3,
+// The layer that the first digit of a refusal's number says.
+fn layer_of(number: u8) -> Option<Layer> {
+    match number / 10 {
+        1 => Some(Layer::Text),
+        2 => Some(Layer::Frame),
+        3 => Some(Layer::Page),
+        _ => None,
     }
 }
 
-// The text is refused with this number at this text line. The number's first digit says the layer.
+// The text is refused with this number at this text line.
 pub(crate) fn refused(rt: &impl Abort, text: &[u8], number: u8, line: usize) -> Result<(), Fail> {
-    match read(text) {
-        Ok(_) => Err(Fail::new(format_args!("accepted: {}", text.escape_ascii()))),
-        Err(fault) => {
-            assert_eq!(rt;
-                (fault.number(), fault.line()),
-                (number, line),
-                "{}",
-                text.escape_ascii()
-            );
-            assert_eq!(rt;
-                layer_digit(fault.layer()),
-                number / 10,
-                "{}",
-                text.escape_ascii()
-            );
-            Ok(())
-        }
-    }
+    let Err(fault) = read(text) else {
+        return Err(Fail::new(format_args!("accepted: {}", text.escape_ascii())));
+    };
+    assert_eq!(rt;
+        (fault.number(), fault.line(), Some(fault.layer())),
+        (number, line, layer_of(number)),
+        "{}",
+        text.escape_ascii()
+    );
+    Ok(())
 }
 
 // A row is a text, the number of its refusal and the text line.

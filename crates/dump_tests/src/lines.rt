@@ -9,68 +9,54 @@ const LEFT: &[u8; 9] = b"a\nbb\n\nccc";
 
 const RIGHT: &[u8; 2] = b"\n\n";
 
-fn is_line(rt: &impl Abort, side: u8, number: usize, text: &[u8]) -> Result<(), Fail> {
-    match line(LEFT, RIGHT, side, number) {
-        Ok(found) => {
-            assert!(rt; found == text);
-            Ok(())
-        },
-        Err(_) => Err(Fail::new("no line")),
-    }
-}
-
-fn is_refused(rt: &impl Abort, side: u8, number: usize, refusal: u8) -> Result<(), Fail> {
-    match line(LEFT, RIGHT, side, number) {
-        Ok(_) => Err(Fail::new("a line")),
-        Err(fault) => {
-            assert_eq!(rt; fault.number(), refusal);
-            Ok(())
-        },
-    }
+// What is answered: the line, or the number of the refusal.
+fn answers(rt: &impl Abort, side: u8, number: usize, answer: Result<&[u8], u8>) {
+    assert_eq!(rt;
+        line(LEFT, RIGHT, side, number).map_err(|fault| fault.number()),
+        answer,
+        "line {number} of side {side}"
+    );
 }
 
 #[test]
-fn lines_of_the_left(rt: HostRuntime) -> Result<(), Fail> {
-    is_refused(&rt, 0, 0, 74)?;
-    is_line(&rt, 0, 1, b"a")?;
-    is_line(&rt, 0, 2, b"bb")?;
-    is_line(&rt, 0, 3, b"")?;
-    is_line(&rt, 0, 4, b"ccc")?;
-    is_refused(&rt, 0, 5, 74)?;
-    is_refused(&rt, 0, usize::MAX, 74)
+fn lines_of_the_left(rt: HostRuntime) {
+    answers(&rt, 0, 0, Err(74));
+    answers(&rt, 0, 1, Ok(b"a"));
+    answers(&rt, 0, 2, Ok(b"bb"));
+    answers(&rt, 0, 3, Ok(b""));
+    answers(&rt, 0, 4, Ok(b"ccc"));
+    answers(&rt, 0, 5, Err(74));
+    answers(&rt, 0, usize::MAX, Err(74));
 }
 
 #[test]
-fn lines_of_the_right(rt: HostRuntime) -> Result<(), Fail> {
-    is_refused(&rt, 1, 0, 74)?;
-    is_line(&rt, 1, 1, b"")?;
-    is_line(&rt, 1, 2, b"")?;
-    is_refused(&rt, 1, 3, 74)
+fn lines_of_the_right(rt: HostRuntime) {
+    answers(&rt, 1, 0, Err(74));
+    answers(&rt, 1, 1, Ok(b""));
+    answers(&rt, 1, 2, Ok(b""));
+    answers(&rt, 1, 3, Err(74));
 }
 
 #[test]
 fn no_other_side(rt: HostRuntime) -> Result<(), Fail> {
-    is_refused(&rt, 2, 1, 10)?;
-    is_refused(&rt, 2, 0, 10)?;
-    is_refused(&rt, 255, 9, 10)?;
-    match line(LEFT, RIGHT, 2, 1) {
-        Err(LineFault::Text(fault)) => {
-            assert_eq!(rt; fault.line, 0);
-            Ok(())
-        },
-        _ => Err(Fail::new("no fault of the text layer")),
-    }
+    answers(&rt, 2, 1, Err(10));
+    answers(&rt, 2, 0, Err(10));
+    answers(&rt, 255, 9, Err(10));
+    let Err(LineFault::Text(fault)) = line(LEFT, RIGHT, 2, 1) else {
+        return Err(Fail::new("no fault of the text layer"));
+    };
+    assert_eq!(rt; fault.line, 0);
+    Ok(())
 }
 
 #[test]
-fn no_line_of_an_empty_text(rt: HostRuntime) -> Result<(), Fail> {
+fn no_line_of_an_empty_text(rt: HostRuntime) {
     for number in 0..3 {
-        match line(b"", LEFT, 0, number) {
-            Ok(_) => return Err(Fail::new("a line")),
-            Err(fault) => assert_eq!(rt; fault.number(), 74),
-        }
+        assert_eq!(rt;
+            line(b"", LEFT, 0, number).map_err(|fault| fault.number()),
+            Err(74)
+        );
     }
-    Ok(())
 }
 
 #[test]

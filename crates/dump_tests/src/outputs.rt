@@ -10,17 +10,14 @@ fn write_into(out: &mut [u8]) -> Result<Result<usize, u8>, Fail> {
     let Ok(page) = read(DUMP) else {
         return Err(Fail::new("refused"));
     };
-    match write(&page, out) {
-        Ok(len) => Ok(Ok(len)),
-        Err(fault) => Ok(Err(fault.number())),
-    }
+    Ok(write(&page, out).map_err(|fault| fault.number()))
 }
 
 #[test]
 fn exactly_enough(rt: HostRuntime) -> Result<(), Fail> {
     let mut out = [0xEE; 14];
     assert_eq!(rt; write_into(&mut out)?, Ok(14));
-    assert!(rt; out == *DUMP);
+    assert_eq!(rt; out, *DUMP);
     Ok(())
 }
 
@@ -28,7 +25,7 @@ fn exactly_enough(rt: HostRuntime) -> Result<(), Fail> {
 fn one_byte_short(rt: HostRuntime) -> Result<(), Fail> {
     let mut out = [0xEE; 13];
     assert_eq!(rt; write_into(&mut out)?, Err(71));
-    assert!(rt; out == [0xEE; 13]);
+    assert_eq!(rt; out, [0xEE; 13]);
     Ok(())
 }
 
@@ -42,6 +39,6 @@ fn no_memory(rt: HostRuntime) -> Result<(), Fail> {
 fn bytes_beyond_stay(rt: HostRuntime) -> Result<(), Fail> {
     let mut out = [0xEE; 17];
     assert_eq!(rt; write_into(&mut out)?, Ok(14));
-    assert!(rt; &out == b"01010000\n0200\n\xEE\xEE\xEE");
+    assert_eq!(rt; &out, b"01010000\n0200\n\xEE\xEE\xEE");
     Ok(())
 }

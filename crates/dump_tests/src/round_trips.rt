@@ -1,9 +1,10 @@
 // A page read from its dump and written again, and a page written and read again.
+use crate::checks::refused;
 use dump::reading::read;
 use dump::writing::write;
 use lists::BoundedVec;
 use pages::page::Page;
-use pages::{Line, LineKind, Name, Port, Screen, Slot, Source};
+use pages::{Line, LineKind, Name, Parts, Port, Screen, Slot, Source};
 use std::alloc::{AllocError, Global};
 use std::process::Abort;
 use std::test::Fail;
@@ -18,13 +19,11 @@ fn comes_back(rt: &impl Abort, text: &[u8]) -> Result<(), Fail> {
 
 fn has_dump(rt: &impl Abort, page: &Page, text: &[u8]) -> Result<(), Fail> {
     let mut out = [0; 4096];
-    match write(page, &mut out) {
-        Ok(len) => {
-            assert!(rt; &out[0..len] == text, "{}", text.escape_ascii());
-            Ok(())
-        },
-        Err(_) => Err(Fail::new(format_args!("no room: {}", text.escape_ascii()))),
-    }
+    let Ok(len) = write(page, &mut out) else {
+        return Err(Fail::new(format_args!("no room: {}", text.escape_ascii())));
+    };
+    assert_eq!(rt; &out[0..len], text, "{}", text.escape_ascii());
+    Ok(())
 }
 
 #[test]
@@ -66,13 +65,7 @@ fn largest_dump_comes_back(rt: HostRuntime) -> Result<(), Fail> {
 fn one_line_more_is_refused(rt: HostRuntime) -> Result<(), Fail> {
     let mut text = largest_dump(rt.alloc())?;
     text.extend_from_slice(b"031F001F101F00031002\n")?;
-    match read(text.as_slice()) {
-        Ok(_) => Err(Fail::new("accepted")),
-        Err(fault) => {
-            assert_eq!(rt; (fault.number(), fault.line()), (31, 162));
-            Ok(())
-        },
-    }
+    refused(&rt, text.as_slice(), 31, 162)
 }
 
 // On screen 0 a heart rate is taken at port 3, on screen 1 it is shown at port 1.
@@ -97,7 +90,12 @@ fn heart_page(start: u8) -> Option<Page> {
     };
     let mut lines = BoundedVec::new(take);
     lines.extend(&[take, show]);
-    Page::new(screens, lines, start, BoundedVec::new(Name(0)))
+    Page::new(Parts {
+        screens,
+        lines,
+        start,
+        numbers: BoundedVec::new(Name(0)),
+    })
 }
 
 #[test]
@@ -124,13 +122,16 @@ fn parts_are_what_the_dump_says(rt: HostRuntime) -> Result<(), Fail> {
         return Err(Fail::new("refused"));
     };
     assert_eq!(rt; page.start(), 1);
-    let (screens, numbers, lines) = (page.screens(), page.numbers(), page.lines());
-    assert!(rt; screens.len() == 2 && numbers.len() == 2 && lines.len() == 1);
-    assert_eq!(rt; (screens[0].slots, screens[1].slots), (1, 2));
-    assert_eq!(rt; (numbers[0].0, numbers[1].0), (5, 7));
-    let line = lines[0];
-    assert_eq!(rt; (line.from, line.port.0, line.next), (1, 0x13, 0));
-    assert!(rt; matches!(line.kind, LineKind::Show(Slot(1))));
-    assert!(rt; matches!(line.sources.as_slice(), [Source::Kept(Slot(0))]));
+    assert_eq!(rt;
+        page.screens(),
+        &[Screen { slots: 1 }, Screen { slots: 2 }][..]
+    );
+    assert_eq!(rt; page.numbers(), &[Name(5), Name(7)][..]);
+    let [line] = page.lines() else {
+        return Err(Fail::new("not one line"));
+    };
+    assert_eq!(rt; (line.from, line.port, line.next), (1, Port(0x13), 0));
+    assert_eq!(rt; line.kind, LineKind::Show(Slot(1)));
+    assert_eq!(rt; line.sources.as_slice(), &[Source::Kept(Slot(0))][..]);
     Ok(())
 }

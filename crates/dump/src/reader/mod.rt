@@ -5,8 +5,7 @@ ghost use Rattle.dump.specs.Due.{screens_due, lines_due, some_due};
 
 pub(crate) mod steps;
 
-use lists::BoundedVec;
-use pages::{Line, Name, Screen};
+use pages::Parts;
 
 // What is awaited: the header, then the screens, then the lines, each with how many more are to come.
 #[derive(Clone, Copy)]
@@ -21,11 +20,8 @@ pub(crate) enum Due {
 #[derive(Drop)]
 pub(crate) struct Reader {
     due: Due,
-    screens: BoundedVec<Screen, 32>,
-    lines: BoundedVec<Line, 128>,
-    start: u8,
-    numbers: BoundedVec<Name, 4>,
+    parts: Parts,
     ghost some: { some_due due ≡ true },
-    ghost wide: { length (held screens) + screens_due due ≤ 32 },
-    ghost long: { length (held lines) + lines_due due ≤ 128 },
+    ghost wide: { length (held parts.screens) + screens_due due ≤ 32 },
+    ghost long: { length (held parts.lines) + lines_due due ≤ 128 },
 }

@@ -14,7 +14,7 @@ use frames::Frame;
 use lists::BoundedVec;
 use pages::forming::stands;
 use pages::page::Page;
-use pages::{Line, LineKind, Name, Port, Screen, Source};
+use pages::{Line, LineKind, Name, Parts, Port, Screen, Source};
 
 // What is awaited when so many lines are still to come.
 fn lines_next(more: u8) -> Due
@@ -51,10 +51,12 @@ impl Reader {
         };
         Reader {
             due: Due::Header,
-            screens: BoundedVec::new(Screen { slots: 0 }),
-            lines: BoundedVec::new(line),
-            start: 0,
-            numbers: BoundedVec::new(Name(0)),
+            parts: Parts {
+                screens: BoundedVec::new(Screen { slots: 0 }),
+                lines: BoundedVec::new(line),
+                start: 0,
+                numbers: BoundedVec::new(Name(0)),
+            },
         }
     }
 
@@ -66,13 +68,10 @@ impl Reader {
         match (self.due, frame) {
             (Due::Header, Frame::Header(header)) => {
                 if header.start >= header.screens {
-                    return Err(PageFault::Page {
-                        question: PageQuestion::Start,
-                        line: at,
-                    });
+                    return Err(PageQuestion::Start.at(at));
                 }
-                self.start = header.start;
-                self.numbers = header.numbers;
+                self.parts.start = header.start;
+                self.parts.numbers = header.numbers;
                 self.due = Due::Screens {
                     more: header.screens,
                     lines: header.lines,
@@ -80,25 +79,19 @@ impl Reader {
                 Ok(())
             }
             (Due::Screens { more, lines }, Frame::Screen(screen)) => {
-                let _ = self.screens.push(screen);
+                let _ = self.parts.screens.push(screen);
                 self.due = screens_next(more - 1, lines);
                 Ok(())
             }
             (Due::Lines { more }, Frame::Line(line)) => {
-                if !stands(&line, self.screens.as_slice()) {
-                    return Err(PageFault::Page {
-                        question: PageQuestion::Line,
-                        line: at,
-                    });
+                if !stands(&line, self.parts.screens.as_slice()) {
+                    return Err(PageQuestion::Line.at(at));
                 }
-                let _ = self.lines.push(line);
+                let _ = self.parts.lines.push(line);
                 self.due = lines_next(more - 1);
                 Ok(())
             }
-            _ => Err(PageFault::Page {
-                question: PageQuestion::Awaited,
-                line: at,
-            }),
+            _ => Err(PageQuestion::Awaited.at(at)),
         }
     }
 
@@ -108,19 +101,9 @@ impl Reader {
         requires { finish at (reader_model self.now) ≡ Ok (reader_model self.now).page → well_formed (reader_model self.now).page ≡ true }
         ensures { mapped page_model result ≡ finish at (reader_model self.now) }
     {
-        match self.due {
-            Due::Nothing => {}
-            _ => return Err(PageFault::Page {
-                question: PageQuestion::Complete,
-                line: at,
-            }),
+        if !matches!(self.due, Due::Nothing) {
+            return Err(PageQuestion::Complete.at(at));
         }
-        match Page::new(self.screens, self.lines, self.start, self.numbers) {
-            Some(page) => Ok(page),
-            None => Err(PageFault::Page {
-                question: PageQuestion::Numbers,
-                line: 1,
-            }),
-        }
+        Page::new(self.parts).ok_or(PageQuestion::Numbers.at(1))
     }
 }
