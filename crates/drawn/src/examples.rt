@@ -8,153 +8,68 @@ const LEFT: u8 = 0;
 
 const RIGHT: u8 = 1;
 
+// A row in one line of a table. A public one of the library would promise no more than its fields say.
+fn row(code: u32, side: u8, first: u32, number: u32) -> Row {
+    Row {
+        code,
+        side,
+        first,
+        number,
+    }
+}
+
 // The left's challenge is answered by the right, and the other way round, without end.
-static CIRCLE: [Row; 2] = [
-    Row {
-        code: 1,
-        side: LEFT,
-        first: 0,
-        number: 1,
-    },
-    Row {
-        code: 2,
-        side: RIGHT,
-        first: 1,
-        number: 1,
-    },
-];
+fn circle() -> [Row; 2] {
+    [row(1, LEFT, 0, 1), row(2, RIGHT, 1, 1)]
+}
 
 static CIRCLE_REPLIES: [u32; 2] = [2, 1];
 
-static DEAD_END: [Row; 2] = [
-    Row {
-        code: 5,
-        side: LEFT,
-        first: 0,
-        number: 1,
-    },
-    Row {
-        code: 5,
-        side: RIGHT,
-        first: 1,
-        number: 0,
-    },
-];
+fn dead_end() -> [Row; 2] {
+    [row(5, LEFT, 0, 1), row(5, RIGHT, 1, 0)]
+}
 
 static DEAD_END_REPLIES: [u32; 1] = [6];
 
 // At 1 the first challenge meets a reply without a count, the second one of count 3, and the third one of count 2.
-static DETOUR: [Row; 8] = [
-    Row {
-        code: 1,
-        side: LEFT,
-        first: 0,
-        number: 2,
-    },
-    Row {
-        code: 1,
-        side: LEFT,
-        first: 2,
-        number: 1,
-    },
-    Row {
-        code: 1,
-        side: RIGHT,
-        first: 3,
-        number: 1,
-    },
-    Row {
-        code: 2,
-        side: LEFT,
-        first: 0,
-        number: 0,
-    },
-    Row {
-        code: 3,
-        side: RIGHT,
-        first: 1,
-        number: 1,
-    },
-    Row {
-        code: 4,
-        side: LEFT,
-        first: 1,
-        number: 1,
-    },
-    Row {
-        code: 4,
-        side: LEFT,
-        first: 4,
-        number: 1,
-    },
-    Row {
-        code: 5,
-        side: LEFT,
-        first: 3,
-        number: 1,
-    },
-];
+fn detour() -> [Row; 8] {
+    [
+        row(1, LEFT, 0, 2),
+        row(1, LEFT, 2, 1),
+        row(1, RIGHT, 3, 1),
+        row(2, LEFT, 0, 0),
+        row(3, RIGHT, 1, 1),
+        row(4, LEFT, 1, 1),
+        row(4, LEFT, 4, 1),
+        row(5, LEFT, 3, 1),
+    ]
+}
 
 static DETOUR_REPLIES: [u32; 5] = [2, 3, 5, 4, 2];
 
 // Four codes, one after another and back.
-static RING: [Row; 4] = [
-    Row {
-        code: 10,
-        side: LEFT,
-        first: 1,
-        number: 1,
-    },
-    Row {
-        code: 11,
-        side: LEFT,
-        first: 2,
-        number: 1,
-    },
-    Row {
-        code: 12,
-        side: LEFT,
-        first: 3,
-        number: 1,
-    },
-    Row {
-        code: 13,
-        side: LEFT,
-        first: 0,
-        number: 1,
-    },
-];
+fn ring() -> [Row; 4] {
+    [
+        row(10, LEFT, 1, 1),
+        row(11, LEFT, 2, 1),
+        row(12, LEFT, 3, 1),
+        row(13, LEFT, 0, 1),
+    ]
+}
 
 static RING_REPLIES: [u32; 4] = [10, 11, 12, 13];
 
 // At 4 there is no even reply.
-static EVENS: [Row; 3] = [
-    Row {
-        code: 2,
-        side: LEFT,
-        first: 0,
-        number: 2,
-    },
-    Row {
-        code: 3,
-        side: RIGHT,
-        first: 0,
-        number: 0,
-    },
-    Row {
-        code: 4,
-        side: LEFT,
-        first: 0,
-        number: 1,
-    },
-];
+fn evens() -> [Row; 3] {
+    [row(2, LEFT, 0, 2), row(3, RIGHT, 0, 0), row(4, LEFT, 0, 1)]
+}
 
 static EVENS_REPLIES: [u32; 2] = [3, 4];
 
 pub(crate) fn holding(rt: &impl Print) -> io::Result<()> {
     let game = Drawn {
         start: 1,
-        rows: &CIRCLE,
+        rows: &circle(),
         replies: &CIRCLE_REPLIES,
     };
     say(
@@ -169,7 +84,7 @@ pub(crate) fn holding(rt: &impl Print) -> io::Result<()> {
 pub(crate) fn failing(rt: &impl Print) -> io::Result<()> {
     let game = Drawn {
         start: 5,
-        rows: &DEAD_END,
+        rows: &dead_end(),
         replies: &DEAD_END_REPLIES,
     };
     say(
@@ -181,7 +96,7 @@ pub(crate) fn failing(rt: &impl Print) -> io::Result<()> {
     )?;
     let game = Drawn {
         start: 1,
-        rows: &DETOUR,
+        rows: &detour(),
         replies: &DETOUR_REPLIES,
     };
     say(
@@ -196,7 +111,7 @@ pub(crate) fn failing(rt: &impl Print) -> io::Result<()> {
 pub(crate) fn short_lists(rt: &impl Print) -> io::Result<()> {
     let game = Drawn {
         start: 10,
-        rows: &RING,
+        rows: &ring(),
         replies: &RING_REPLIES,
     };
     say(
@@ -218,7 +133,7 @@ pub(crate) fn short_lists(rt: &impl Print) -> io::Result<()> {
 pub(crate) fn layers(rt: &impl Print) -> io::Result<()> {
     let game = Drawn {
         start: 5,
-        rows: &DEAD_END,
+        rows: &dead_end(),
         replies: &DEAD_END_REPLIES,
     };
     say(
@@ -237,7 +152,7 @@ pub(crate) fn layers(rt: &impl Print) -> io::Result<()> {
     )?;
     let game = Drawn {
         start: 2,
-        rows: &EVENS,
+        rows: &evens(),
         replies: &EVENS_REPLIES,
     };
     say(rt, "Even codes", &game, Way::AgainstEvens, Lists::Long)
@@ -246,7 +161,7 @@ pub(crate) fn layers(rt: &impl Print) -> io::Result<()> {
 pub(crate) fn refused(rt: &impl Print) -> io::Result<()> {
     let game = Drawn {
         start: 1,
-        rows: &CIRCLE,
+        rows: &circle(),
         replies: &CIRCLE_REPLIES,
     };
     say(rt, "Unequal lists", &game, Way::Plain, Lists::Unequal)

@@ -11,7 +11,7 @@ use settle::{
     CodeSet, SettleFault, Settled, settle, settle_against, settle_drawn, settle_drawn_left,
 };
 
-#[derive(Clone, Copy)]
+#[derive(Clone, Copy, PartialEq, Eq)]
 pub enum Way {
     Plain,
     LeftOnly,
@@ -49,6 +49,8 @@ impl CodeSet for Evens {
     ghost has = { Even };
 }
 
+// A match and two lists, as `settle` takes them: the lists may differ in length, which it asks.
+
 // At FAILS the even codes are not held with START among them.
 fn settle_against_evens(
     game: &Drawn,
@@ -77,6 +79,7 @@ fn settle_left_twice(
     )
 }
 
+// A way is a value and no closure: what is said of a match and of its answer goes by it too.
 pub(crate) fn settle_by(
     way: Way,
     game: &Drawn,

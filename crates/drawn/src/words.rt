@@ -1,5 +1,6 @@
 // A match, its codes and its answer, in words.
 use crate::settling::{Lists, MOST, Way, settle_by};
+use games::Side;
 use games::drawn::{Drawn, Row};
 use settle::{SettleFault, Settled, Verdict};
 use std::io;
@@ -37,26 +38,23 @@ fn say_match(rt: &impl Print, game: &Drawn) -> io::Result<()> {
 
 fn say_row(rt: &impl Print, row: &Row, replies: &[u32]) -> io::Result<()> {
     let code = row.code;
-    let side = if row.side == 0 { "left" } else { "right" };
+    let side = match row.side() {
+        Side::Left => "left",
+        Side::Right => "right",
+    };
     print!(rt; "  At {code} the {side} challenges; ")?;
-    let mut none = true;
-    for (k, y) in replies
+    let mut replies = replies
         .iter()
         .skip(row.first as usize)
-        .take(row.number as usize)
-        .enumerate()
-    {
-        match k {
-            0 => print!(rt; "the replies lead to {y}")?,
-            _ => print!(rt; ", {y}")?,
-        }
-        none = false;
+        .take(row.number as usize);
+    let Some(first) = replies.next() else {
+        return println!(rt; "there is no reply.");
+    };
+    print!(rt; "the replies lead to {first}")?;
+    for y in replies {
+        print!(rt; ", {y}")?;
     }
-    if none {
-        println!(rt; "there is no reply.")
-    } else {
-        println!(rt; ".")
-    }
+    println!(rt; ".")
 }
 
 fn say_way(rt: &impl Print, way: Way) -> io::Result<()> {
@@ -117,16 +115,16 @@ fn say_verdict(rt: &impl Print, verdict: Verdict, room: usize) -> io::Result<()>
 
 // What a failing match says of the set that was put forward.
 fn say_refuted(rt: &impl Print, way: Way, answer: Result<Settled, SettleFault>) -> io::Result<()> {
-    match (way, answer) {
-        (
-            Way::AgainstEvens,
-            Ok(
-                Settled {
-                    verdict: Verdict::Fails(_),
-                    ..
-                },
-            ),
-        ) => println!(rt; "  So the even codes are no such set."),
-        _ => Ok(()),
+    let fails = matches!(
+        answer,
+        Ok(Settled {
+            verdict: Verdict::Fails(_),
+            ..
+        })
+    );
+    if way == Way::AgainstEvens && fails {
+        println!(rt; "  So the even codes are no such set.")
+    } else {
+        Ok(())
     }
 }

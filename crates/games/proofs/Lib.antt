@@ -3,5 +3,5 @@ pub mod Winning
 pub mod Counting
 pub mod Listed
 pub mod Reaching
-pub mod Rows
+pub mod Asked
 pub mod Sided

@@ -1,8 +1,8 @@
 -- The listing: it grows, it stands still once all listed codes are expanded, and then it is closed.
 use Rattle.std.proofs.Common.{◌≡◌, ℕ, zero, suc, ◌<◌, ◌≤◌, Bool, true, cond, eqb, List, [], ◌∷◌, ◌++◌, length, get_or, take, Some, None, Option, sym, refl, ap, ◌∙◌, subst, ⊎_elim, append_assoc, append-nil, arith, length-append, take_all, take-suc, eq-eqb}
-use mathlib.Core.Bool.{false≢true}
 use lib.Seq.{take-append-le}
-use Rattle.std.proofs.lemmas.Bool.{cases_lt, cond_both, or_left, or_right, or_cases, and_from}
+use Rattle.std.proofs.lemmas.Bool.{cases_lt, cond_both, or_left, or_right, and_from}
+use Rattle.std.proofs.lemmas.List.Folds.{list_any-append}
 use Rattle.std.proofs.lemmas.Option.{slice_get-get_or, slice_get_past}
 use Rattle.std.specs.List.{slice_get}
 use Rattle.games.proofs.Members.{every_listed}
@@ -47,12 +47,10 @@ module _ (m : Meaning) where
 
 -- a list with more has what was there
 listed_append : (y : ℕ) (xs ys : List ℕ) → listed y xs ≡ true → listed y (xs ++ ys) ≡ true
-listed_append y [] ys h = absurd (false≢true h)
-listed_append y (x ∷ xs) ys h = ⊎_elim (λ e. or_left (eqb y x) _ e) (λ e. or_right (eqb y x) _ (listed_append y xs ys e)) (or_cases (eqb y x) _ h)
+listed_append y xs ys h = list_any-append (eqb y) xs ys ∙ or_left _ _ h
 
 listed_last : (y : ℕ) (xs : List ℕ) → listed y (xs ++ (y ∷ [])) ≡ true
-listed_last y [] = or_left (eqb y y) _ (eq-eqb y y refl)
-listed_last y (x ∷ xs) = or_right (eqb y x) _ (listed_last y xs)
+listed_last y xs = list_any-append (eqb y) xs (y ∷ []) ∙ or_right _ _ (or_left (eqb y y) _ (eq-eqb y y refl))
 
 with_new_keeps : (y : ℕ) (seen ys : List ℕ) → listed y seen ≡ true → listed y (with_new seen ys) ≡ true
 with_new_keeps y seen [] h = h

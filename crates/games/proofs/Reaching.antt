@@ -1,18 +1,17 @@
 -- The listing has each code that the match leads to, once.
-use Rattle.std.proofs.Common.{◌≡◌, ℕ, zero, suc, ◌<◌, ◌≤◌, true, false, not, ◌&&◌, eqb, ◌⊎◌, List, [], ◌∷◌, ◌++◌, length, Some, None, Option, sym, refl, ap, subst, inl, inr, ⊎_elim, arith, eq-eqb, eqb-true}
+use Rattle.std.proofs.Common.{◌≡◌, ℕ, zero, suc, ◌<◌, ◌≤◌, true, false, not, ◌&&◌, eqb, ◌⊎◌, List, [], ◌∷◌, ◌++◌, length, Some, None, Option, sym, refl, ap, ◌∙◌, subst, inl, inr, ⊎_elim, arith, eq-eqb, eqb-true}
 use mathlib.Core.Bool.{false≢true}
 use Rattle.std.proofs.lemmas.Bool.{eqb-false, cases_lt, cond_both, or_left, or_right, or_cases, or_parts, and_from, and_parts, not-true, both_ways}
+use Rattle.std.proofs.lemmas.List.Folds.{list_any-append}
 use Rattle.std.specs.List.{slice_get}
 use Rattle.games.proofs.Listed.{reached_listed}
 use Rattle.games.specs.Listing.{listed, with_new, listing, expanded, Reached, at_start, at_reply, distinct, MoreThan}
 use Rattle.games.specs.Meaning.{Meaning, replies_at}
-use Rattle.lists.proofs.Tested.{by_false, any_mono, number, number_le, number_more}
+use Rattle.lists.proofs.Tested.{by_false, any_mono, any_at, number, number_le, number_more}
 use Rattle.lists.specs.Every.{any}
 
 append_cases : (y : ℕ) (xs ys : List ℕ) → listed y (xs ++ ys) ≡ true → (listed y xs ≡ true) ⊎ (listed y ys ≡ true)
-append_cases y [] ys h = inr h
-append_cases y (x ∷ xs) ys h =
-    ⊎_elim (λ e. inl (or_left (eqb y x) _ e)) (λ e. ⊎_elim (λ d. inl (or_right (eqb y x) _ d)) (λ d. inr d) (append_cases y xs ys e)) (or_cases (eqb y x) _ h)
+append_cases y xs ys h = or_cases _ _ (sym (list_any-append (eqb y) xs ys) ∙ h)
 
 new_cases : (y : ℕ) (seen ys : List ℕ) → listed y (with_new seen ys) ≡ true → (listed y seen ≡ true) ⊎ (listed y ys ≡ true)
 new_cases y seen [] h = inl h
@@ -59,18 +58,13 @@ module _ (m : Meaning) where
   listing_distinct zero = refl
   listing_distinct (suc k) = expand_distinct (listing m k) (slice_get (listing m k) k) (listing_distinct k)
 
-  nth_listed : (xs : List ℕ) (i x : ℕ) → slice_get xs i ≡ Some x → listed x xs ≡ true
-  nth_listed [] i x e = let z : ◌≡◌ {A = ℕ} 0 1 = cc in absurd (omega arith)
-  nth_listed (y ∷ xs) zero x e = let q : y ≡ x = cc in or_left (eqb x y) _ (eq-eqb x y (sym q))
-  nth_listed (y ∷ xs) (suc i) x e = or_right (eqb x y) _ (nth_listed xs i x e)
-
   expand_reached : (seen : List ℕ) (o : Option ℕ) → ((x : ℕ) → o ≡ Some x → listed x seen ≡ true) → ((x : ℕ) → listed x seen ≡ true → Reached m x) → (x : ℕ) → listed x (expanded m seen o) ≡ true → Reached m x
   expand_reached seen None at f x h = f x h
   expand_reached seen (Some z) at f x h = ⊎_elim (λ e. f x e) (λ e. at_reply z x (f z (at z refl)) e) (new_cases x seen (replies_at (m.at z)) h)
 
   pub listing_reached : (k x : ℕ) → listed x (listing m k) ≡ true → Reached m x
   listing_reached zero x h = subst (Reached m) (sym (eqb-true x m.start (⊎_elim (λ t. t) (λ t. absurd (false≢true t)) (or_cases (eqb x m.start) _ h)))) at_start
-  listing_reached (suc k) x h = expand_reached (listing m k) (slice_get (listing m k) k) (λ y e. nth_listed (listing m k) k y e) (λ y e. listing_reached k y e) x h
+  listing_reached (suc k) x h = expand_reached (listing m k) (slice_get (listing m k) k) (λ y e. any_at (eqb y) (listing m k) k y e (eq-eqb y y refl)) (λ y e. listing_reached k y e) x h
 
   -- the listing passes n exactly where more than n codes are reached
   pub listing_more : (n : ℕ) → n < length (listing m n) → MoreThan m n

@@ -1,6 +1,7 @@
 // The layer over any match that keeps only the left's challenges. It knows nothing of the match below but its meaning.
-ghost use Rattle.std.specs.Prelude.{◌≡◌, ℕ, ◌<◌, ◌≤◌, length};
+ghost use Rattle.std.specs.Prelude.{◌≡◌};
 ghost use Rattle.std.specs.List.{slice_get};
+ghost use Rattle.games.specs.Meaning.{side_at};
 ghost use Rattle.games.specs.Ways.{chosen};
 ghost use Rattle.games.specs.LeftOnly.{left_only, lefts, some_left};
 ghost use Rattle.games.specs.Bounds.{left_only_below};
@@ -13,42 +14,22 @@ pub struct LeftOnly<M> {
     pub game: M,
 }
 
-fn is_left(s: Option<Side>) -> bool
-    ensures { result ≡ some_left s }
-{
-    match s {
-        Some(Side::Left) => true,
-        Some(Side::Right) => false,
-        None => false,
+impl<M: Match> LeftOnly<M> {
+    // Whether the i-th of all challenges is the left's.
+    fn is_left(&self, code: u64, i: usize) -> bool
+        ensures { result ≡ some_left (side_at (M.Match.meaning self.now.game) code i) }
+    {
+        self.game.side(code, i) == Some(Side::Left)
     }
-}
 
-// Where the n-th challenge of the left stands among all.
-fn place<M: Match>(game: &M, code: u64, n: usize) -> Option<usize>
-    ensures { chosen ((M.Match.meaning game.now).at code) result ≡ slice_get (lefts ((M.Match.meaning game.now).at code)) n }
-{
-    let mut left = n;
-    for k in 0..game.count(code) {
-        if is_left(game.side(code, k)) {
-            if left == 0 {
-                return Some(k);
-            }
-            left -= 1;
-        }
+    // Where the n-th challenge of the left stands among all.
+    fn place(&self, code: u64, n: usize) -> Option<usize>
+        ensures { chosen ((M.Match.meaning self.now.game).at code) result ≡ slice_get (lefts ((M.Match.meaning self.now.game).at code)) n }
+    {
+        (0..self.game.count(code))
+            .filter(|i| self.is_left(code, *i))
+            .nth(n)
     }
-    None
-}
-
-fn lefts_of<M: Match>(game: &M, code: u64) -> usize
-    ensures { result ≡ length (lefts ((M.Match.meaning game.now).at code)) }
-{
-    let mut n = 0;
-    for k in 0..game.count(code) {
-        if is_left(game.side(code, k)) {
-            n += 1;
-        }
-    }
-    n
 }
 
 impl<M: Match> Match for LeftOnly<M> {
@@ -64,24 +45,25 @@ impl<M: Match> Match for LeftOnly<M> {
         self.game.top()
     }
 
+    // The chain of `place` once more: no function can hand one out.
     fn count(&self, code: u64) -> usize {
-        lefts_of(&self.game, code)
+        (0..self.game.count(code))
+            .filter(|i| self.is_left(code, *i))
+            .count()
     }
 
     fn side(&self, code: u64, n: usize) -> Option<Side> {
-        let k = place(&self.game, code, n)?;
+        let k = self.place(code, n)?;
         self.game.side(code, k)
     }
 
     fn replies(&self, code: u64, n: usize) -> Option<usize> {
-        let k = place(&self.game, code, n)?;
+        let k = self.place(code, n)?;
         self.game.replies(code, k)
     }
 
     fn next(&self, code: u64, n: usize, j: usize) -> Option<u64> {
-        match place(&self.game, code, n) {
-            Some(k) => self.game.next(code, k, j),
-            None => None,
-        }
+        let k = self.place(code, n)?;
+        self.game.next(code, k, j)
     }
 }

@@ -8,7 +8,7 @@ pub mod drawn;
 pub mod left_only;
 
 // The side that makes a challenge; the other side replies.
-#[derive(Clone, Copy)]
+#[derive(Clone, Copy, Debug, PartialEq, Eq)]
 pub enum Side {
     Left,
     Right,

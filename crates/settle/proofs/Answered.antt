@@ -1,9 +1,8 @@
 -- What settling answers, from what its parts leave.
-use Rattle.std.proofs.Common.{◌≡◌, ℕ, zero, suc, ◌+◌, ◌-◌, ◌<◌, ◌≤◌, true, eqb, leb, List, ◌++◌, length, get_or, take, drop, replicate, Some, None, Ok, Err, Option, Result, sym, refl, ap, ◌∙◌, subst, ⊎_elim, arith, length-drop, take-append-drop, length-take-le, get_or-drop, get_or-take, take_at, ext_get_or, drop_at, eq-eqb, le-leb}
-use native.Mathlib.Nat.{sub-zero}
+use Rattle.std.proofs.Common.{◌≡◌, ℕ, zero, suc, ◌+◌, ◌-◌, ◌<◌, ◌≤◌, true, List, ◌++◌, length, get_or, take, drop, replicate, Some, None, Ok, Err, Option, Result, sym, refl, ap, ◌∙◌, subst, ⊎_elim, arith, length-drop, take-append-drop, length-take-le, get_or-drop, get_or-take, take_at, ext_get_or, drop_at}
 use lib.ListN.{length-replicate, get_or-replicate}
-use Rattle.std.proofs.lemmas.List.{get_or_append_left}
-use Rattle.std.proofs.lemmas.Bool.{both_ways, and_from}
+use Rattle.std.proofs.lemmas.List.{get_or_append_left, drop-replicate}
+use Rattle.std.proofs.lemmas.Bool.{both_ways}
 use Rattle.std.specs.List.{slice_get}
 use Rattle.games.proofs.Counting.{rounds, count_within, still_holds, fails_from, fails_unheld, held_by_uncounted, sure_iff}
 use Rattle.games.proofs.Reaching.{listing_reached, listing_more, more_listing}
@@ -14,18 +13,12 @@ use Rattle.games.specs.Listing.{listed, listing, expanded, MoreThan, Closed}
 use Rattle.games.specs.Meaning.{Meaning, replies_at}
 use Rattle.lists.proofs.Tested.{by_false, number_le}
 use Rattle.settle.specs.Grown.{Grown}
-use Rattle.settle.specs.Outcome.{ListedAll, Answer, good_lists, verdict_of, Outcome, Refuted, Refutes}
+use Rattle.settle.specs.Outcome.{ListedAll, Answer, verdict_of, Outcome, Refuted, Refutes}
 use Rattle.settle.specs.declared.SettleFault.{SettleFault}
 use Rattle.settle.specs.declared.Settled.{Settled}
 use Rattle.settle.specs.declared.Verdict.{Verdict}
 use Rattle.settle.specs.declared.Verdict.TheVariants.{Holds as HOLDS, Fails as FAILS, Full as FULL}
 use Rattle.settle.specs.Rounds.{AllClear, CountsAre}
-
-pub good : (xs rs : List ℕ) → length xs ≡ length rs → 0 < length xs → length xs ≤ 1024 → good_lists xs rs ≡ true
-good xs rs e p l = and_from (eqb (length xs) (length rs)) _ (eq-eqb (length xs) (length rs) e) (and_from (leb 1 (length xs)) _ (le-leb 1 (length xs) (omega arith)) (le-leb (length xs) 1024 l))
-
-zeros : (xs : List ℕ) (k : ℕ) → length xs ≡ k → ((i : ℕ) → i < length xs → get_or xs i 0 ≡ 0) → xs ≡ replicate k 0
-zeros xs k e z = ext_get_or 0 xs (replicate k 0) (e ∙ sym (length-replicate k 0)) (λ i l. z i l ∙ sym (get_or-replicate k i 0 0 (omega arith)))
 
 module _ (m : Meaning) where
   first_listed : (k : ℕ) → get_or (listing m k) 0 0 ≡ m.start
@@ -56,34 +49,28 @@ module _ (m : Meaning) where
     closed_n : Closed m (listing m N)
     closed_n = listing_closed m N few
 
-    zero_at : (k : ℕ) → k < N → get_or zs k 0 ≡ 0
-    zero_at k l = ap (λ l. get_or l k 0) cleared ∙ get_or-replicate N k 0 0 l
-
-    pub all_clear : (ws : List ℕ) → ws ≡ replicate N 0 → N ≤ 1024 → AllClear m (take (n - 0) codes) (take (n - 0) ws)
+    pub all_clear : (ws : List ℕ) → ws ≡ replicate N 0 → N ≤ 1024 → AllClear m (take n codes) (take n ws)
     all_clear ws e small =
         let wl : length ws ≡ N = ap length e ∙ length-replicate N 0 in
         let nl : n ≤ N = omega (arith, grown_n.fits) in
-        subst (λ (k : ℕ). AllClear m (take k codes) (take k ws)) (sym (sub-zero n))
-        (record {
+        record {
           closed = subst (Closed m) (sym grown_n.front) closed_n;
           same = length-take-le n codes (omega arith) ∙ sym (length-take-le n ws (omega arith));
           few = omega (arith, length-take-le n codes (omega arith));
           clear = λ k l.
               let h : k < n = omega (arith, length-take-le n codes (omega arith)) in
               get_or-take n ws k 0 h ∙ ap (λ l. get_or l k 0) e ∙ get_or-replicate N k 0 0 (omega arith);
-        })
+        }
 
     rest_zero : drop n codes ≡ replicate (N - n) 0
     rest_zero =
-        zeros (drop n codes) (N - n) (length-drop n codes ∙ ap (λ k. k - n) long)
-        (λ i l. get_or-drop n codes i 0 ∙ grown_n.rest (n + i) (omega arith) ∙ zero_at (n + i) (omega (arith, length-drop n codes)))
+        ext_get_or 0 (drop n codes) (drop n zs) (omega (arith, length-drop n codes, length-drop n zs, ap length cleared, length-replicate {A = ℕ} N 0))
+        (λ i l. get_or-drop n codes i 0 ∙ grown_n.rest (n + i) (omega arith) ∙ sym (get_or-drop n zs i 0))
+        ∙ ap (drop n) cleared ∙ drop-replicate n N 0
 
     module _ (ws rs : List ℕ) (wcleared : ws ≡ replicate N 0) (rl : length rs ≡ n) (are : CountsAre m (take n codes) rs) where
       past_zero : drop n ws ≡ replicate (N - n) 0
-      past_zero =
-          let wl : length ws ≡ N = ap length wcleared ∙ length-replicate N 0 in
-          zeros (drop n ws) (N - n) (length-drop n ws ∙ ap (λ k. k - n) wl)
-          (λ i l. get_or-drop n ws i 0 ∙ ap (λ l. get_or l (n + i) 0) wcleared ∙ get_or-replicate N (n + i) 0 0 (omega (arith, length-drop n ws)))
+      past_zero = ap (drop n) wcleared ∙ drop-replicate n N 0
 
       are_n : CountsAre m (listing m N) rs
       are_n = subst (λ (xs : List ℕ). CountsAre m xs rs) grown_n.front are

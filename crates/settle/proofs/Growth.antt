@@ -1,13 +1,16 @@
 -- Lists of codes that grow.
-use Rattle.std.proofs.Common.{◌≡◌, ℕ, zero, suc, ◌+◌, ◌<◌, ◌≤◌, true, false, List, [], ◌∷◌, ◌++◌, length, get_or, take, drop, set, unwrap_or, sym, refl, ap, ◌∙◌, subst, append_assoc, append-nil, add-one, arith, length-append, length-set, length-take-le, get_or-set_other, take-suc-set}
+use Rattle.std.proofs.Common.{◌≡◌, ℕ, zero, suc, ◌+◌, ◌<◌, ◌≤◌, Bool, true, false, cond, ◌||◌, Some, None, Option, List, [], ◌∷◌, ◌++◌, length, get_or, take, drop, set, sym, refl, ap, ◌∙◌, subst, append_assoc, append-nil, add-one, arith, length-append, length-set, length-take-le, get_or-set_other, take-suc-set}
 use lib.Seq.{split_at}
 use Rattle.std.proofs.lemmas.List.{take_more}
 use Rattle.std.proofs.lemmas.Bool.{cond-true, cond-false}
 use Rattle.std.specs.List.{slice_get}
+use Rattle.std.specs.Option.{is_some, option_map}
 use Rattle.games.proofs.Listed.{with_new_append, with_new_longer}
 use Rattle.games.specs.Listing.{listed, with_new}
 use Rattle.games.specs.Meaning.{Challenge, replies_at, replies_of}
+use Rattle.lists.specs.Every.{any}
 use Rattle.settle.specs.Grown.{Grown}
+use Rattle.values.specs.Places.{first_place}
 
 pub grown_then : (before mid after : List ℕ) (n n' : ℕ) (seen seen' : List ℕ) → Grown before mid n seen → Grown mid after n' seen' → n ≤ n' → Grown before after n' seen'
 grown_then before mid after n n' seen seen' a b l =
@@ -24,6 +27,16 @@ grown_more xs n y l =
       front = rw (add-one n) (take-suc-set xs n y l);
       rest = λ k h. get_or-set_other xs n k y 0 (omega arith);
     }
+
+-- the search finds a place exactly where some element passes
+pub found : {A : Type 0} (p : A → Bool) (xs : List A) → is_some (first_place p xs) ≡ any p xs
+found p [] = refl
+found p (x ∷ xs) = here (p x) (first_place p xs) (found p xs)
+  where
+    here : (b : Bool) (o : Option ℕ) → is_some o ≡ any p xs → is_some (cond b (Some 0) (option_map suc o)) ≡ (b || any p xs)
+    here true o e = refl
+    here false None e = e
+    here false (Some i) e = e
 
 -- one code more
 pub add_listed : (xs : List ℕ) (n y : ℕ) → n ≤ length xs → listed y (take n xs) ≡ true → Grown xs xs n (with_new (take n xs) (y ∷ []))
@@ -51,19 +64,10 @@ module _ (seen whole done piece rest : List ℕ) (parts : whole ≡ done ++ (pie
       let w : with_new seen whole ≡ with_new (with_new seen (done ++ piece)) rest = ap (with_new seen) (parts ∙ sym (append_assoc done piece rest)) ∙ with_new_append seen (done ++ piece) rest in
       omega (arith, ap length e, ap length w, with_new_longer (with_new seen (done ++ piece)) rest)
 
--- one reply more
-pub take_one : (rs : List ℕ) (k : ℕ) → k < length rs → rs ≡ take k rs ++ ((get_or rs k 0 ∷ []) ++ drop (suc k) rs)
-take_one rs k l = split_at rs k 0 l
-
-pub value_at : (rs : List ℕ) (k : ℕ) → unwrap_or (slice_get rs k) 0 ≡ get_or rs k 0
-value_at [] k = refl
-value_at (r ∷ rs) zero = refl
-value_at (r ∷ rs) (suc k) = value_at rs k
-
 -- one reply more of rs
 module _ (first mid : List ℕ) (n : ℕ) (seen rs : List ℕ) (k y : ℕ) (inside : k < length rs) (is : y ≡ get_or rs k 0) (a : Grown first mid n (with_new seen (take k rs))) where
   parts_at : rs ≡ take k rs ++ ((y ∷ []) ++ drop (suc k) rs)
-  parts_at = take_one rs k inside ∙ ap (λ z. take k rs ++ ((z ∷ []) ++ drop (suc k) rs)) (sym is)
+  parts_at = split_at rs k 0 inside ∙ ap (λ z. take k rs ++ ((z ∷ []) ++ drop (suc k) rs)) (sym is)
 
   pub reply_step : (after : List ℕ) (n' : ℕ) → Grown mid after n' (with_new (take n mid) (y ∷ [])) → Grown first after n' (with_new seen (take (k + 1) rs))
   reply_step after n' b =
@@ -74,10 +78,6 @@ module _ (first mid : List ℕ) (n : ℕ) (seen rs : List ℕ) (k y : ℕ) (insi
   reply_full same l = grow_full seen rs (take k rs) (y ∷ []) (drop (suc k) rs) parts_at first mid n a same l
 
 -- one challenge more of cs
-replies_at_append : (xs ys : List (Challenge ℕ)) → replies_at (xs ++ ys) ≡ replies_at xs ++ replies_at ys
-replies_at_append [] ys = refl
-replies_at_append (x ∷ xs) ys = ap (λ l. x.replies ++ l) (replies_at_append xs ys) ∙ sym (append_assoc x.replies (replies_at xs) (replies_at ys))
-
 replies_parts : (cs : List (Challenge ℕ)) (k : ℕ) → k < length cs → (replies_at cs ≡ replies_at (take k cs) ++ (replies_of (slice_get cs k) ++ replies_at (drop (suc k) cs))) × (replies_at (take (suc k) cs) ≡ replies_at (take k cs) ++ replies_of (slice_get cs k))
 replies_parts [] k l = absurd (omega arith)
 replies_parts (c ∷ cs) zero l = (refl, append-nil c.replies)

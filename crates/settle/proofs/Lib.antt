@@ -1,5 +1,5 @@
+pub mod Replies
 pub mod Growth
 pub mod Lister
 pub mod Turns
-pub mod Fills
 pub mod Answered

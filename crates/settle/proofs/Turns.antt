@@ -1,17 +1,18 @@
 -- One round of settling.
-use Rattle.std.proofs.Common.{◌≡◌, ℕ, zero, suc, ◌+◌, ◌-◌, ◌<◌, ◌≤◌, Bool, true, false, not, ◌&&◌, ◌||◌, eqb, ltb, ◌⊎◌, List, [], ◌∷◌, length, get_or, take, set, Some, None, Option, sym, refl, ap, ◌∙◌, subst, inl, inr, ⊎_elim, add-one, arith, length-set, take_all, get_or-set_other, get_or-set_same, le-ltb, lt-ltb, eq-eqb, ne_eqb, eqb-true}
-use mathlib.Core.Bool.{false≢true}
-use Rattle.std.proofs.lemmas.Bool.{cases_lt, cases_Bool, cond-true, cond-false, or_left, or_right, or_cases, and_from, and_parts, and_right, both_ways, not-true, or_parts}
+use Rattle.std.proofs.Common.{◌≡◌, ℕ, zero, suc, ◌+◌, ◌-◌, ◌<◌, ◌≤◌, Bool, true, false, not, ◌&&◌, ◌||◌, eqb, ltb, ◌⊎◌, List, [], ◌∷◌, length, get_or, take, set, Some, None, Option, sym, refl, ap, ◌∙◌, subst, inl, inr, ⊎_elim, arith, length-set, get_or-set_other, get_or-set_same, le-ltb, lt-ltb, eq-eqb, ne_eqb, eqb-true}
+use Rattle.std.proofs.Math.Bool.{or-false}
+use Rattle.std.proofs.lemmas.Bool.{cases_lt, cases_Bool, cond-true, cond-false, or_left, or_right, and_from, and_parts, and_right, both_ways, not-true, or_parts}
+use Rattle.std.proofs.lemmas.List.Folds.{list_any_more}
 use Rattle.std.proofs.lemmas.Option.{slice_get-get_or}
 use Rattle.games.proofs.Counting.{has_before, has_within, within_forces, Still, still_none, count_le}
-use Rattle.games.proofs.Members.{every_replies, every_listed, any_listed, place_none}
+use Rattle.games.proofs.Members.{every_replies, every_listed, any_listed}
 use Rattle.games.specs.Counts.{forces, within, has_count, CountIs}
 use Rattle.games.specs.Listing.{listed, Closed}
 use Rattle.games.specs.Meaning.{Meaning, Challenge}
 use Rattle.lists.proofs.Tested.{same_test, by_true, any_at, every_not}
 use Rattle.lists.specs.Every.{any, every}
-use Rattle.settle.specs.Rounds.{tally, marked, looked_up, due, RoundReady, RoundDone, AllClear, CountsAre}
-use Rattle.values.proofs.Searched.{place_good}
+use Rattle.settle.specs.Rounds.{tally, marked, looked_up, due, RoundReady, RoundDone, CountsAre}
+use Rattle.values.proofs.Searched.{place_good, place_none}
 use Rattle.values.specs.Places.{first_place}
 
 module _ (m : Meaning) where
@@ -100,13 +101,6 @@ module _ (m : Meaning) where
     pub ahead : (k : ℕ) → i ≤ k → k < length xs → get_or rs k 0 ≡ tally m (n - 1) (get_or xs k 0)
     pub given_is : given ≡ any (has_count m.at n) (take i xs)
 
-  pub under_start : (xs rs : List ℕ) (n : ℕ) → RoundReady m xs rs n → UnderWay xs rs n 0 false
-  under_start xs rs n r = record { same = r.same; done = λ k l. absurd (omega arith); ahead = λ k h l. r.before k l; given_is = refl }
-
-  pub under_end : (xs rs : List ℕ) (n i : ℕ) (given : Bool) → UnderWay xs rs n i given → length xs ≤ i → RoundDone m xs rs n given
-  under_end xs rs n i given u l =
-      record { same = u.same; after = λ k h. u.done k (omega arith); given_is = u.given_is ∙ ap (any (has_count m.at n)) (take_all i xs l) }
-
   due_count : (xs rs : List ℕ) (n i : ℕ) (given : Bool) → Closed m xs → 0 < n → UnderWay xs rs n i given → i < length xs → due m xs rs n i ≡ has_count m.at n (get_or xs i 0)
   due_count xs rs zero i given closed p u l = absurd (omega arith)
   due_count xs rs (suc j) i given closed p u l =
@@ -114,22 +108,6 @@ module _ (m : Meaning) where
       due_is xs rs j closed
       (λ k h. ⊎_elim (λ b. inr (u.done k b)) (λ b. inl (u.ahead k b h ∙ ap (λ v. tally m v (get_or xs k 0)) q)) (cases_lt k i))
       i l (u.ahead i (omega arith) l ∙ ap (λ v. tally m v (get_or xs i 0)) q)
-
-  any_suc_is : (p : ℕ → Bool) (xs : List ℕ) (k : ℕ) → k < length xs → any p (take (suc k) xs) ≡ (any p (take k xs) || p (get_or xs k 0))
-  any_suc_is p [] k l = absurd (omega arith)
-  any_suc_is p (x ∷ xs) zero l = same_test _ _ (λ h. ⊎_elim (λ e. e) (λ e. absurd (false≢true e)) (or_cases (p x) _ h)) (λ h. or_left (p x) _ h)
-  any_suc_is p (x ∷ xs) (suc k) l = ap (λ b. p x || b) (any_suc_is p xs k (omega arith)) ∙ or_join (p x) _ _
-    where
-      or_join : (a b c : Bool) → (a || (b || c)) ≡ ((a || b) || c)
-      or_join true b c = refl
-      or_join false b c = refl
-
-  any_next_is : (p : ℕ → Bool) (xs : List ℕ) (k : ℕ) → k < length xs → any p (take (k + 1) xs) ≡ (any p (take k xs) || p (get_or xs k 0))
-  any_next_is p xs k l = rw (add-one k) (any_suc_is p xs k l)
-
-  or_with : (a b : Bool) → b ≡ false → (a || b) ≡ a
-  or_with true b e = refl
-  or_with false b e = e
 
   module _ (xs rs : List ℕ) (n i : ℕ) (given : Bool) (closed : Closed m xs) (pos : 0 < n) (u : UnderWay xs rs n i given) (inside : i < length xs) where
     pub under_given : due m xs rs n i ≡ true → UnderWay xs (set rs i n) n (i + 1) true
@@ -142,7 +120,7 @@ module _ (m : Meaning) where
               (λ b. let e : k ≡ i = omega arith in ap (λ v. get_or (set rs i n) v 0) e ∙ get_or-set_same rs i n 0 (omega (arith, u.same)) ∙ sym (tally_hit n (get_or xs i 0) h) ∙ ap (λ v. tally m n (get_or xs v 0)) (sym e))
               (cases_lt k i);
           ahead = λ k b l. get_or-set_other rs i k n 0 (omega arith) ∙ u.ahead k (omega arith) l;
-          given_is = sym (any_next_is (has_count m.at n) xs i inside ∙ or_right (any (has_count m.at n) (take i xs)) _ h);
+          given_is = sym (list_any_more (has_count m.at n) xs i 0 inside ∙ or_right (any (has_count m.at n) (take i xs)) _ h);
         }
 
     pub under_passed : due m xs rs n i ≡ false → UnderWay xs rs n (i + 1) given
@@ -155,7 +133,7 @@ module _ (m : Meaning) where
               (λ b. let e : k ≡ i = omega arith in ap (λ v. get_or rs v 0) e ∙ u.ahead i (omega arith) inside ∙ sym (tally_miss n (get_or xs i 0) h) ∙ ap (λ v. tally m n (get_or xs v 0)) (sym e))
               (cases_lt k i);
           ahead = λ k b l. u.ahead k (omega arith) l;
-          given_is = u.given_is ∙ sym (any_next_is (has_count m.at n) xs i inside ∙ or_with _ _ h);
+          given_is = u.given_is ∙ sym (list_any_more (has_count m.at n) xs i 0 inside ∙ ap (λ b. any (has_count m.at n) (take i xs) || b) h ∙ or-false _);
         }
 
   -- what is written after the last round is the count
@@ -184,6 +162,3 @@ module _ (m : Meaning) where
         record { closed = closed; same = d.same; some = omega arith; before = λ k l. d.after k l ∙ ap (λ v. tally m v (get_or xs k 0)) (sym q) },
         omega (arith, count_le m xs n x.0 closed x.1 x.2),
       )
-
-  pub first_round : (xs rs : List ℕ) → AllClear m xs rs → RoundReady m xs rs 1 × (1 ≤ length xs + 1)
-  first_round xs rs a = (record { closed = a.closed; same = a.same; some = omega arith; before = a.clear }, omega arith)

@@ -1,12 +1,11 @@
 // SETTLE: every code that a match leads to, the count of each, and whether the match holds.
 #![tactic(auto)]
 
-ghost use Rattle.std.specs.Prelude.{◌≡◌, ℕ, length, replicate};
+ghost use Rattle.std.specs.Prelude.{◌≡◌, ℕ};
 ghost use Rattle.games.specs.Drawn.{drawn};
 ghost use Rattle.games.specs.LeftOnly.{left_only};
 ghost use Rattle.settle.specs.Outcome.{settle_number, verdict_of, Outcome, Refutes};
 
-mod asking;
 mod listing;
 mod rounds;
 
@@ -17,7 +16,7 @@ use games::drawn::Drawn;
 use games::left_only::LeftOnly;
 
 // HOLDS, FAILS with the count of START, or FULL: the lists are too short for all codes.
-#[derive(Clone, Copy)]
+#[derive(Clone, Copy, Debug, PartialEq, Eq)]
 pub enum Verdict {
     Holds,
     Fails(u16),
@@ -25,14 +24,14 @@ pub enum Verdict {
 }
 
 // How many codes were listed, 0 at FULL, and the verdict.
-#[derive(Clone, Copy)]
+#[derive(Clone, Copy, Debug, PartialEq, Eq)]
 pub struct Settled {
     pub codes: usize,
     pub verdict: Verdict,
 }
 
 // Why settling is refused: the lists are not equally long, or not of 1 to 1,024 entries.
-#[derive(Clone, Copy)]
+#[derive(Clone, Copy, Debug, PartialEq, Eq)]
 pub enum SettleFault {
     Lists = 44,
 }
@@ -45,27 +44,18 @@ impl SettleFault {
     }
 }
 
-// The same value in every entry.
-fn fill<T: Copy>(xs: &mut [T], v: T)
-    ensures { xs.new ≡ replicate (length xs.old) v }
-{
-    for i in 0..xs.len() {
-        xs[i] = v;
-    }
-}
-
 // What the counts say of the first code.
 fn verdict_of(count: u16) -> Verdict
     ensures { result ≡ verdict_of count }
 {
-    if count == 0 {
-        Verdict::Holds
-    } else {
-        Verdict::Fails(count)
+    match count {
+        0 => Verdict::Holds,
+        count => Verdict::Fails(count),
     }
 }
 
-// SETTLE, in two lists of the caller's, for codes and for counts.
+// SETTLE, in two lists of the caller's, for codes and for counts. They are two, as the caller is asked whether they are
+// equally long.
 pub fn settle<M: Match>(
     game: &M,
     codes: &mut [u64],
@@ -73,27 +63,23 @@ pub fn settle<M: Match>(
 ) -> Result<Settled, SettleFault>
     ensures { Outcome (M.Match.meaning game.now) codes.old counts.old codes.new counts.new result }
 {
-    if codes.len() != counts.len() || codes.len() == 0 || codes.len() > 1024 {
+    if codes.len() != counts.len() || !(1..=1_024).contains(&codes.len()) {
         return Err(SettleFault::Lists);
     }
-    fill(codes, 0);
-    fill(counts, 0);
-    match list_codes(game, codes) {
-        Some(n) => {
-            all_rounds(game, &codes[0..n], &mut counts[0..n]);
-            Ok(Settled {
-                codes: n,
-                verdict: verdict_of(counts[0]),
-            })
-        }
-        None => {
-            fill(codes, 0);
-            Ok(Settled {
-                codes: 0,
-                verdict: Verdict::Full,
-            })
-        }
-    }
+    codes.fill(0);
+    counts.fill(0);
+    let Some(n) = list_codes(game, codes) else {
+        codes.fill(0);
+        return Ok(Settled {
+            codes: 0,
+            verdict: Verdict::Full,
+        });
+    };
+    all_rounds(game, &codes[..n], &mut counts[..n]);
+    Ok(Settled {
+        codes: n,
+        verdict: verdict_of(counts[0]),
+    })
 }
 
 // A set of codes of any sort, told or not.

@@ -1,75 +1,56 @@
 // Counts, round by round.
-ghost use Rattle.std.specs.Prelude.{◌≡◌, ℕ, ◌<◌, ◌≤◌, length};
+ghost use Rattle.std.specs.Prelude.{◌≡◌};
 ghost use Rattle.std.specs.List.{slice_get};
 ghost use Rattle.lists.specs.Every.{every};
 ghost use Rattle.games.specs.Meaning.{replies_of};
 ghost use Rattle.games.specs.Counts.{forces};
-ghost use Rattle.settle.specs.Rounds.{count_beside, marked, due, RoundReady, RoundDone, AllClear, CountsAre};
+ghost use Rattle.settle.specs.Rounds.{count_beside, marked, RoundReady, RoundDone, AllClear, CountsAre};
 
-use crate::asking::{replies_or, reply_or};
 use games::Match;
 use values::search::position;
 
-// The count beside a code, 0 where it has none.
-fn count_of(codes: &[u64], counts: &[u16], y: u64) -> u16
-    requires { length codes.now ≡ length counts.now }
-    ensures { result ≡ count_beside codes.now counts.now y }
-{
-    match position(codes, &y) {
-        Some(i) => counts[i],
-        None => 0,
-    }
-}
-
-// Whether a code has a count below n.
-fn is_marked(codes: &[u64], counts: &[u16], y: u64, n: u16) -> bool
-    requires { length codes.now ≡ length counts.now }
-    ensures { result ≡ marked codes.now counts.now n y }
-{
-    let c = count_of(codes, counts, y);
-    0 < c && c < n
-}
-
-// Whether every reply to one challenge has a count below n.
-fn all_marked<M: Match>(
-    game: &M,
-    codes: &[u64],
-    counts: &[u16],
-    code: u64,
-    at: usize,
+// What a round reads: a match, its listed codes, the counts so far beside them, and the count that it gives.
+#[derive_where(Clone, Copy)]
+struct Board<'a, M> {
+    game: &'a M,
+    codes: &'a [u64],
+    counts: &'a [u16],
     n: u16,
-) -> bool
-    requires { length codes.now ≡ length counts.now }
-    ensures { result ≡ every (marked codes.now counts.now n) (replies_of (slice_get ((M.Match.meaning game.now).at code) at)) }
-{
-    for k in 0..replies_or(game, code, at) {
-        let y = reply_or(game, code, at, k);
-        if !is_marked(codes, counts, y, n) {
-            return false;
-        }
-    }
-    true
 }
 
-// Whether some challenge at a code has only replies with counts below n.
-fn forced<M: Match>(game: &M, codes: &[u64], counts: &[u16], code: u64, n: u16) -> bool
-    requires { length codes.now ≡ length counts.now }
-    ensures { result ≡ forces (M.Match.meaning game.now).at (marked codes.now counts.now n) code }
-{
-    for k in 0..game.count(code) {
-        if all_marked(game, codes, counts, code, k, n) {
-            return true;
-        }
+impl<M: Match> Board<'_, M> {
+    // The count beside a code, 0 where it has none.
+    fn count_of(&self, y: u64) -> u16
+        ensures { result ≡ count_beside self.now.codes.now self.now.counts.now y }
+    {
+        position(self.codes, &y)
+            .and_then(|i| self.counts.get(i))
+            .copied()
+            .unwrap_or(0)
     }
-    false
-}
 
-// Whether the i-th code has no count below n, and is due to have n.
-fn is_due<M: Match>(game: &M, codes: &[u64], counts: &[u16], i: usize, n: u16) -> bool
-    requires { (length codes.now ≡ length counts.now) × (i < length codes.now) }
-    ensures { result ≡ due (M.Match.meaning game.now) codes.now counts.now n i }
-{
-    counts[i] == 0 && forced(game, codes, counts, codes[i], n)
+    // Whether a code has a count below n.
+    fn is_marked(&self, y: u64) -> bool
+        ensures { result ≡ marked self.now.codes.now self.now.counts.now self.now.n y }
+    {
+        let c = self.count_of(y);
+        0 < c && c < self.n
+    }
+
+    // Whether every reply to one challenge has a count below n.
+    fn all_marked(&self, code: u64, at: usize) -> bool
+        ensures { result ≡ every (marked self.now.codes.now self.now.counts.now self.now.n) (replies_of (slice_get ((M.Match.meaning self.now.game.now).at code) at)) }
+    {
+        let replies = self.game.replies(code, at).unwrap_or(0);
+        (0..replies).all(|k| self.is_marked(self.game.next(code, at, k).unwrap_or(0)))
+    }
+
+    // Whether some challenge at a code has only replies with counts below n.
+    fn forced(&self, code: u64) -> bool
+        ensures { result ≡ forces (M.Match.meaning self.now.game.now).at (marked self.now.codes.now self.now.counts.now self.now.n) code }
+    {
+        (0..self.game.count(code)).any(|at| self.all_marked(code, at))
+    }
 }
 
 // One round: count n for each code that has it. Answers whether one has.
@@ -78,8 +59,15 @@ fn round<M: Match>(game: &M, codes: &[u64], counts: &mut [u16], n: u16) -> bool
     ensures { RoundDone (M.Match.meaning game.now) codes.now counts.new n result }
 {
     let mut given = false;
-    for i in 0..codes.len() {
-        if is_due(game, codes, counts, i, n) {
+    // The counts go by index: one is written while all are read.
+    for (i, code) in codes.iter().enumerate() {
+        let board = Board {
+            game,
+            codes,
+            counts,
+            n,
+        };
+        if counts[i] == 0 && board.forced(*code) {
             counts[i] = n;
             given = true;
         }
@@ -92,6 +80,7 @@ pub(crate) fn all_rounds<M: Match>(game: &M, codes: &[u64], counts: &mut [u16])
     requires { AllClear (M.Match.meaning game.now) codes.now counts.old }
     ensures { CountsAre (M.Match.meaning game.now) codes.now counts.new }
 {
+    // No `for`: how many rounds there are is only known from the last.
     let mut n = 1;
     while round(game, codes, counts, n) {
         n += 1;

@@ -9,15 +9,11 @@ use settle::{SettleFault, Settled, Verdict, settle_drawn};
 use std::{env, io};
 
 fn main(rt: HostRuntime) -> anyhow::Result<()> {
-    run(&rt)
-}
-
-fn run(rt: &HostRuntime) -> anyhow::Result<()> {
-    for name in env::args(rt)?.skip(1) {
-        let shape = Shape::named(name.as_str())?;
+    for name in env::args(&rt)?.skip(1) {
+        let shape: Shape = name.parse()?;
         let table = shape.table(rt.alloc())?;
         println!(rt; "{name}: {shape}")?;
-        say(rt, settled(&table))?;
+        say(&rt, settled(&table))?;
     }
     Ok(())
 }

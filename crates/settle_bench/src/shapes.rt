@@ -5,6 +5,7 @@ use anyhow::anyhow;
 use games::drawn::Row;
 use std::alloc::{AllocError, Global};
 use std::fmt;
+use std::str::FromStr;
 
 #[derive(Clone, Copy)]
 pub enum Shape {
@@ -20,15 +21,19 @@ pub struct Table {
 
 const LAST: u32 = 1_023;
 
-impl Shape {
-    pub fn named(name: &str) -> anyhow::Result<Shape> {
+impl FromStr for Shape {
+    type Err = anyhow::Error;
+
+    fn from_str(name: &str) -> anyhow::Result<Shape> {
         match name {
             "chain" => Ok(Shape::Chain),
             "wide" => Ok(Shape::Wide),
             _ => Err(anyhow!("name a shape: chain or wide")),
         }
     }
+}
 
+impl Shape {
     // How many replies there are at each code but the last.
     fn width(self) -> u32
         ensures { result ≤ 32 }
@@ -40,7 +45,7 @@ impl Shape {
     }
 
     // Each code leads to the next ones, the furthest first; the last code's challenge has no reply.
-    pub fn table(self, heap: Global) -> Result<Table, AllocError> {
+    pub(crate) fn table(self, heap: Global) -> Result<Table, AllocError> {
         let width = self.width();
         let mut rows = Vec::new(heap);
         let mut replies = Vec::new(heap);
@@ -51,8 +56,8 @@ impl Shape {
                 first: code * 32 + (32 - width),
                 number: width,
             })?;
-            for back in 0..32 {
-                replies.push(LAST.min(code + (32 - back)))?;
+            for ahead in (1..=32).rev() {
+                replies.push(LAST.min(code + ahead))?;
             }
         }
         rows.push(Row {

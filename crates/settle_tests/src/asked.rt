@@ -1,64 +1,25 @@
 // The questions to a drawn match, with and without the layer, at and beyond the ends of its lists.
+use crate::row;
+use games::Side::{Left, Right};
 use games::drawn::{Drawn, Row};
 use games::left_only::LeftOnly;
 use games::{Match, Side};
 use std::process::Abort;
 
 // At 7: two replies; by byte 255, cut to one; from just past the end; from far beyond it. At 9: cut to two.
-static ROWS: [Row; 7] = [
-    Row {
-        code: 7,
-        side: 0,
-        first: 0,
-        number: 2,
-    },
-    Row {
-        code: 8,
-        side: 1,
-        first: 1,
-        number: 1,
-    },
-    Row {
-        code: 7,
-        side: 255,
-        first: 2,
-        number: 9,
-    },
-    Row {
-        code: 7,
-        side: 1,
-        first: 3,
-        number: 1,
-    },
-    Row {
-        code: 7,
-        side: 0,
-        first: u32::MAX,
-        number: u32::MAX,
-    },
-    Row {
-        code: 9,
-        side: 0,
-        first: 1,
-        number: u32::MAX,
-    },
-    Row {
-        code: u32::MAX,
-        side: 0,
-        first: 0,
-        number: 0,
-    },
-];
+fn rows() -> [Row; 7] {
+    [
+        row(7, 0, 0, 2),
+        row(8, 1, 1, 1),
+        row(7, 255, 2, 9),
+        row(7, 1, 3, 1),
+        row(7, 0, u32::MAX, u32::MAX),
+        row(9, 0, 1, u32::MAX),
+        row(u32::MAX, 0, 0, 0),
+    ]
+}
 
 static REPLIES: [u32; 3] = [8, 9, 7];
-
-fn letter(side: Option<Side>) -> char {
-    match side {
-        Some(Side::Left) => 'L',
-        Some(Side::Right) => 'R',
-        None => '-',
-    }
-}
 
 fn check_counts<M: Match>(rt: &impl Abort, game: &M, table: &[(u64, usize)]) {
     for (code, count) in table {
@@ -69,14 +30,10 @@ fn check_counts<M: Match>(rt: &impl Abort, game: &M, table: &[(u64, usize)]) {
 fn check_challenges<M: Match>(
     rt: &impl Abort,
     game: &M,
-    table: &[(u64, usize, char, Option<usize>)],
+    table: &[(u64, usize, Option<Side>, Option<usize>)],
 ) {
     for (code, n, side, replies) in table {
-        assert_eq!(rt;
-            letter(game.side(*code, *n)),
-            *side,
-            "side of {n} at {code}"
-        );
+        assert_eq!(rt; game.side(*code, *n), *side, "side of {n} at {code}");
         assert_eq!(rt;
             game.replies(*code, *n),
             *replies,
@@ -101,7 +58,7 @@ const BEYOND: u64 = 1 << 32;
 fn drawn(rt: HostRuntime) {
     let game = Drawn {
         start: 7,
-        rows: &ROWS,
+        rows: &rows(),
         replies: &REPLIES,
     };
     assert_eq!(rt; game.start(), 7);
@@ -122,18 +79,18 @@ fn drawn(rt: HostRuntime) {
         &rt,
         &game,
         &[
-            (7, 0, 'L', Some(2)),
-            (7, 1, 'R', Some(1)),
-            (7, 2, 'R', Some(0)),
-            (7, 3, 'L', Some(0)),
-            (7, 4, '-', None),
-            (7, usize::MAX, '-', None),
-            (8, 0, 'R', Some(1)),
-            (8, 1, '-', None),
-            (9, 0, 'L', Some(2)),
-            (10, 0, '-', None),
-            (BEYOND - 1, 0, 'L', Some(0)),
-            (BEYOND + 7, 0, '-', None),
+            (7, 0, Some(Left), Some(2)),
+            (7, 1, Some(Right), Some(1)),
+            (7, 2, Some(Right), Some(0)),
+            (7, 3, Some(Left), Some(0)),
+            (7, 4, None, None),
+            (7, usize::MAX, None, None),
+            (8, 0, Some(Right), Some(1)),
+            (8, 1, None, None),
+            (9, 0, Some(Left), Some(2)),
+            (10, 0, None, None),
+            (BEYOND - 1, 0, Some(Left), Some(0)),
+            (BEYOND + 7, 0, None, None),
         ],
     );
     check_replies(
@@ -162,7 +119,7 @@ fn left_only(rt: HostRuntime) {
     let game = LeftOnly {
         game: Drawn {
             start: 7,
-            rows: &ROWS,
+            rows: &rows(),
             replies: &REPLIES,
         },
     };
@@ -186,15 +143,15 @@ fn left_only(rt: HostRuntime) {
         &rt,
         &game,
         &[
-            (7, 0, 'L', Some(2)),
-            (7, 1, 'L', Some(0)),
-            (7, 2, '-', None),
-            (7, usize::MAX, '-', None),
-            (8, 0, '-', None),
-            (9, 0, 'L', Some(2)),
-            (9, 1, '-', None),
-            (10, 0, '-', None),
-            (BEYOND + 7, 0, '-', None),
+            (7, 0, Some(Left), Some(2)),
+            (7, 1, Some(Left), Some(0)),
+            (7, 2, None, None),
+            (7, usize::MAX, None, None),
+            (8, 0, None, None),
+            (9, 0, Some(Left), Some(2)),
+            (9, 1, None, None),
+            (10, 0, None, None),
+            (BEYOND + 7, 0, None, None),
         ],
     );
     check_replies(
@@ -222,6 +179,10 @@ fn empty(rt: HostRuntime) {
     };
     assert_eq!(rt; game.start(), BEYOND - 1);
     check_counts(&rt, &game, &[(0, 0), (BEYOND - 1, 0)]);
-    check_challenges(&rt, &game, &[(0, 0, '-', None), (BEYOND - 1, 0, '-', None)]);
+    check_challenges(
+        &rt,
+        &game,
+        &[(0, 0, None, None), (BEYOND - 1, 0, None, None)],
+    );
     check_replies(&rt, &game, &[(0, 0, 0, None), (BEYOND - 1, 0, 0, None)]);
 }

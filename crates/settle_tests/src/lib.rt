@@ -12,7 +12,7 @@ mod valued;
 
 use games::drawn::Row;
 
-// A row in one line of a table.
+// A row in one line of a table. A public one of the library would promise no more than its fields say.
 pub(crate) fn row(code: u32, side: u8, first: u32, number: u32) -> Row
     ensures { (result.code ≡ code) × ((result.side ≡ side) × ((result.first ≡ first) × (result.number ≡ number))) }
 {

@@ -1,10 +1,7 @@
 use Rattle.std.proofs.Common.{subst}
-use Rattle.settle.proofs.Turns.{first_round, next_round, last_round}
+use Rattle.settle.proofs.Turns.{next_round, last_round}
 use Rattle.settle.specs.Rounds.{RoundDone}
 use Rattle.settle.proofs.rounds.all_rounds.Goals as goal
-
-pub loop-n-init : goal.loop-n-init
-loop-n-init g c = first_round (g.M.Match.meaning c.args.game.now) c.args.codes.now c.args.counts.now c.requires
 
 pub loop-n-preserved : goal.loop-n-preserved
 loop-n-preserved g c =

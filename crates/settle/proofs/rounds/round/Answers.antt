@@ -1,10 +1,8 @@
-use Rattle.std.proofs.Common.{ℕ, ◌+◌, Bool, List, sym, ◌∙◌, subst₂}
-use Rattle.settle.proofs.Turns.{UnderWay, under_start, under_end, under_given, under_passed}
+use Rattle.std.proofs.Common.{ℕ, ◌+◌, Bool, List, sym, ◌∙◌, subst₂, eq-eqb, ne_eqb}
+use Rattle.std.proofs.lemmas.Bool.{and_from, and_left, and_right}
+use Rattle.settle.proofs.Turns.{UnderWay, under_given, under_passed}
 use Rattle.settle.proofs.rounds.round.Goals as goal
-use Rattle.settle.proofs.rounds.round.Goals.{then-is_due, else-is_due}
-
-pub loop-i-init : goal.loop-i-init
-loop-i-init g c = under_start (g.M.Match.meaning c.args.game.now) c.args.codes.now c.args.counts.now c.args.n c.requires
+use Rattle.settle.proofs.rounds.round.Goals.{then-counts-i-eq0+then-forced, else-counts-i-eq0, else-counts-i-eq0-via-then-counts-i-eq0+else-forced, else-counts-i-eq0-via-else-counts-i-eq0}
 
 pub loop-i-preserved : goal.loop-i-preserved
 loop-i-preserved g c =
@@ -13,14 +11,15 @@ loop-i-preserved g c =
     let rs = c.loop-i.counts in
     let n = c.args.n in
     let i = c.loop-i.i in
-    elim c.if-is_due.branch [
-      | then-is_due w ↦
+    let passed = under_passed m xs rs n i c.loop-i.given c.requires.closed c.requires.some c.loop-i.invariant c.loop-i-test.true in
+    elim c.if-counts-i-eq0.branch [
+      | then-counts-i-eq0+then-forced w ↦
           subst₂ (λ (r : List ℕ) (b : Bool). UnderWay m xs r n (i + 1) b) (sym w.counts-is) (sym w.given-is)
-          (under_given m xs rs n i c.loop-i.given c.requires.closed c.requires.some c.loop-i.invariant c.loop-i-test.true (sym c.is_due.ensures ∙ w.if-is_due.true))
-      | else-is_due w ↦
+          (under_given m xs rs n i c.loop-i.given c.requires.closed c.requires.some c.loop-i.invariant c.loop-i-test.true (and_from _ _ (eq-eqb _ _ w.if-counts-i-eq0.true) (sym w.forced.ensures ∙ w.if-forced.true)))
+      | else-counts-i-eq0 w ↦
           subst₂ (λ (r : List ℕ) (b : Bool). UnderWay m xs r n (i + 1) b) (sym w.counts-is) (sym w.given-is)
-          (under_passed m xs rs n i c.loop-i.given c.requires.closed c.requires.some c.loop-i.invariant c.loop-i-test.true (sym c.is_due.ensures ∙ w.if-is_due.false))
+          (passed (elim w.else-counts-i-eq0.branch [
+            | else-counts-i-eq0-via-then-counts-i-eq0+else-forced v ↦ and_right _ _ (sym v.forced.ensures ∙ v.if-forced.false)
+            | else-counts-i-eq0-via-else-counts-i-eq0 v ↦ and_left _ _ (ne_eqb _ _ v.if-counts-i-eq0.false)
+          ]))
     ]
-
-pub returns : goal.returns
-returns g c = under_end (g.M.Match.meaning c.args.game.now) c.args.codes.now c.loop-i.counts c.args.n c.loop-i.i c.loop-i.given c.loop-i.invariant c.loop-i-test.false
