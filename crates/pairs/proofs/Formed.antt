@@ -1,58 +1,55 @@
 -- A pair formed from the names of its values.
-use Rattle.std.proofs.Common.{◌≡◌, ℕ, ◌+◌, ◌<◌, ◌≤◌, Bool, true, false, cond, ◌&&◌, ◌||◌, ltb, List, [], ◌++◌, map, length, take, drop, Some, None, Option, unwrap_or, sym, refl, ap, ◌∙◌, subst, arith, length-append, ltb-false}
-use lib.ListN.{length-map}
-use Rattle.std.proofs.lemmas.Bool.{lt-ltb}
-use lib.Seq.{take-append_seam, drop-append_seam}
-use Rattle.values.proofs.Searched.{none_some}
-use Rattle.naming.specs.Names.{names, named}
+use Rattle.std.proofs.Common.{◌≡◌, ℕ, ◌<◌, ◌≤◌, Bool, true, List, ◌++◌, map, length, take, drop, Some, sym, ap, ◌∙◌, subst, arith, take_at, drop_at}
+use Rattle.std.proofs.lemmas.List.{length-map, map-append}
+use Rattle.std.proofs.lemmas.Bool.{cond-true}
+use Rattle.std.proofs.lemmas.Bool.Decides.{nat_tests}
+use Rattle.std.proofs.lemmas.Option.{cond_some}
+use Rattle.pages.specs.declared.Name.{Name}
+use Rattle.naming.specs.Names.{number, names, named}
 use Rattle.twins.specs.Naming.{name}
 use Rattle.twins.specs.Pairs.{Pair, normal}
 use Rattle.twins.specs.Twins.{Equivalence}
-use Rattle.twins.proofs.Lists.{map_append}
 use Rattle.twins.proofs.Naming.{names_again}
 use Rattle.pairs.specs.Order.{InOrder, pair_fits, pair_of_values}
 
-module _ {A : Type 0} (same : A → A → Bool) (i j : ℕ) (xs ys : List A) (ns : List ℕ) (e : ns ≡ names same (xs ++ ys)) where
+module _ {A : Type 0} (same : A → A → Bool) (xs ys : List A) (ls rs : List ℕ) (e : ls ++ rs ≡ names same (xs ++ ys)) (l : length ls ≡ length xs) where
   abbrev f : A → ℕ
   f = name same (xs ++ ys)
 
-  parts : ns ≡ map f xs ++ map f ys
-  parts = e ∙ map_append f xs ys
+  parts : ls ++ rs ≡ map f xs ++ map f ys
+  parts = e ∙ map-append f xs ys
 
-  front : take (length xs) ns ≡ map f xs
-  front = ap (take (length xs)) parts ∙ subst (λ (k : ℕ). take k (map f xs ++ map f ys) ≡ map f xs) (length-map xs f) (take-append_seam (map f xs) (map f ys))
+  front : ls ≡ map f xs
+  front = sym (take_at ls rs _ l) ∙ ap (take (length xs)) parts ∙ take_at (map f xs) (map f ys) _ (length-map xs f)
 
-  back : drop (length xs) ns ≡ map f ys
-  back = ap (drop (length xs)) parts ∙ subst (λ (k : ℕ). drop k (map f xs ++ map f ys) ≡ map f ys) (length-map xs f) (drop-append_seam (map f xs) (map f ys))
+  back : rs ≡ map f ys
+  back = sym (drop_at ls rs _ l) ∙ ap (drop (length xs)) parts ∙ drop_at (map f xs) (map f ys) _ (length-map xs f)
 
   -- its sides are those of the normal pair
-  pub model : ◌≡◌ {A = Pair} (record { left = i; right = j; lefts = take (length xs) ns; rights = drop (length xs) ns }) (normal same i j xs ys)
-  model = λ k. record { left = i; right = j; lefts = front k; rights = back k }
-
-  pub long : length ns ≡ length xs + length ys
-  long = ap length e ∙ length-map (xs ++ ys) f ∙ length-append xs ys
-
-  pub in_order : Equivalence same → InOrder ns
-  in_order eqv = subst InOrder (sym e) (names_again same eqv (xs ++ ys))
+  pub model : (i j : ℕ) → ◌≡◌ {A = Pair} (record { left = i; right = j; lefts = ls; rights = rs }) (normal same i j xs ys)
+  model i j = λ k. record { left = i; right = j; lefts = front k; rights = back k }
 
 module _ {A : Type 0} (same : A → A → Bool) (xs ys : List A) where
   -- where the slots were named, there are at most four a side
-  pub few_named : (ns : List ℕ) → Some ns ≡ named same xs ys → (length xs ≤ 4) × ((length ys ≤ 4) × (ns ≡ names same (xs ++ ys)))
-  few_named ns e = go (ltb 4 (length xs)) (ltb 4 (length ys)) refl refl e
-    where
-      go : (a b : Bool) → ltb 4 (length xs) ≡ a → ltb 4 (length ys) ≡ b → Some ns ≡ cond (a || b) None (Some (names same (xs ++ ys))) →
-          (length xs ≤ 4) × ((length ys ≤ 4) × (ns ≡ names same (xs ++ ys)))
-      go true b p q e = absurd (none_some (sym e))
-      go false true p q e = absurd (none_some (sym e))
-      go false false p q e = (ltb-false 4 (length xs) p, (ltb-false 4 (length ys) q, ap (λ (o : Option (List ℕ)). unwrap_or o []) e))
+  few_named : (ns : List ℕ) → Some ns ≡ named same xs ys → (length xs ≤ 4) × (length ys ≤ 4) × (ns ≡ names same (xs ++ ys))
+  few_named ns e = (grind (arith, nat_tests), grind (arith, nat_tests), grind (arith, nat_tests))
 
-  pub fits : (i j : ℕ) → i < 32 → j < 32 → length xs ≤ 4 → length ys ≤ 4 → pair_fits i j (length xs) (length ys) ≡ true
-  fits i j a b c d =
-      λ k. lt-ltb i 32 a k && (lt-ltb j 32 b k && (lt-ltb (length xs) 5 (omega arith) k && lt-ltb (length ys) 5 (omega arith) k))
+  fits : (i j : ℕ) → i < 32 → j < 32 → length xs ≤ 4 → length ys ≤ 4 → pair_fits i j (length xs) (length ys) ≡ true
+  fits i j a b c d = grind (arith, nat_tests)
+
+  -- the names of all, split where the left slots end
+  module _ (all ls rs : List Name) (e : ls ++ rs ≡ all) (o : Some (map number all) ≡ named same xs ys) where
+    parts_named : map number ls ++ map number rs ≡ names same (xs ++ ys)
+    parts_named = sym (map-append number ls rs) ∙ ap (map number) e ∙ (few_named (map number all) o).2
+
+    pub formed : length ls ≡ length xs → (i j : ℕ) → i < 32 → j < 32 →
+        Some (record { left = i; right = j; lefts = map number ls; rights = map number rs }) ≡ pair_of_values same i j xs ys
+    formed l i j hi hj =
+        let few = few_named (map number all) o in
+        ap Some (model same xs ys (map number ls) (map number rs) parts_named (length-map ls number ∙ l) i j) ∙ sym (cond-true _ _ _ (fits i j hi hj few.0 few.1))
+
+    pub ordered : Equivalence same → InOrder (map number ls ++ map number rs)
+    ordered eqv = subst InOrder (sym parts_named) (names_again same eqv (xs ++ ys))
 
   pub of_values : (i j : ℕ) (m : Pair) → Some m ≡ pair_of_values same i j xs ys → m ≡ normal same i j xs ys
-  of_values i j m e = go (pair_fits i j (length xs) (length ys)) e
-    where
-      go : (b : Bool) → Some m ≡ cond b (Some (normal same i j xs ys)) None → m ≡ normal same i j xs ys
-      go true e = ap (λ (o : Option Pair). unwrap_or o m) e
-      go false e = absurd (none_some (sym e))
+  of_values i j m e = sym (cond_some _ _ _ (sym e)).1

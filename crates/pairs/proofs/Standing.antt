@@ -1,112 +1,80 @@
 -- The codes that stand for a pair.
-use Rattle.std.proofs.Common.{◌≡◌, ℕ, ◌/◌, ◌%◌, ◌^◌, ◌<◌, ◌≤◌, true, cond, ◌&&◌, T, eqb, ltb, List, [], ◌∷◌, ◌++◌, map, length, take, drop, Some, None, sym, ap, ◌∙◌, subst, arith, eqb→eq, lt→ltb, length-drop, take-append-drop, length-take-le}
-use lib.Dec.{eqb_refl}
-use lib.ListN.{length-map}
-use lib.Seq.{take-append_seam, drop-append_seam}
-use Rattle.std.proofs.lemmas.Bool.{cond-true, cond-false}
-use Rattle.lists.specs.Held.{held}
-use Rattle.lists.proofs.Extends.{held_few}
+use Rattle.std.proofs.Common.{◌≡◌, ℕ, ◌<◌, ◌≤◌, Bool, true, false, ◌&&◌, eqb, ltb, List, ◌++◌, length, Some, sym, refl, ap, ◌∙◌, subst, arith, length-append}
+use Rattle.std.specs.Bool.{then_some}
+use Rattle.std.specs.Cmp.Lexicographic.{bytes_decides}
+use Rattle.std.specs.Option.{option_map}
+use Rattle.std.proofs.lemmas.Bool.{and_from, and_parts, cond-true, cond-false, eq-eqb, eqb-true, eqb-false, false_from_ne_true, lt-ltb}
 use Rattle.programs.specs.Places.{In}
-use Rattle.naming.specs.Names.{number}
 use Rattle.twins.specs.Naming.{name}
 use Rattle.twins.specs.Pairs.{Pair, normal}
-use Rattle.twins.specs.Codes.{code, pair_of, names_of, same_list, Small}
-use Rattle.twins.proofs.Lists.{map_append, in_left, in_right}
-use Rattle.twins.proofs.Logic.{and_both, and_make, eq_eqb, yes, no}
-use Rattle.twins.proofs.Naming.{length_kept}
-use Rattle.twins.proofs.Codes.{decodes, same_list→, same_list_refl}
-use Rattle.pairs.specs.Order.{InOrder}
-use Rattle.pairs.specs.Stored.{pair_model}
-use Rattle.pairs.specs.Decoding.{in_order, stands, decoded, used_digit}
+use Rattle.twins.specs.Codes.{code, pair_of, Few, Small}
+use Rattle.twins.proofs.Lists.{in_left, in_right, of_map}
+use Rattle.twins.proofs.Naming.{names_small}
+use Rattle.twins.proofs.Codes.{decodes}
+use Rattle.pairs.specs.Order.{InOrder, pair_of_values}
+use Rattle.pairs.specs.Stored.{pair_model, sides_few}
+use Rattle.pairs.specs.Decoding.{in_order, stands, decoded}
 use Rattle.pairs.specs.declared.Pair as stored
-use Rattle.pairs.proofs.Formed.{model}
-use Rattle.pairs.proofs.Small.{normal_small, order_small}
+use Rattle.pairs.proofs.Formed.{model, of_values}
 
-in_order_yes : (p : Pair) → InOrder (p.lefts ++ p.rights) → T (in_order p)
-in_order_yes p e = subst (λ (l : List ℕ). T (same_list l (p.lefts ++ p.rights))) (sym e) (same_list_refl (p.lefts ++ p.rights))
-
-pub names_four : (m : ℕ) → length (names_of m) ≤ 4
-names_four m = length_kept used_digit (m / 4096 ∷ (m / 256 % 16 ∷ (m / 16 % 16 ∷ (m % 16 ∷ []))))
+in_order_yes : (p : Pair) → InOrder (p.lefts ++ p.rights) → in_order p ≡ true
+in_order_yes p e = (bytes_decides _ _).1 e
 
 -- the pair of a code, named again
-abbrev pub again : ℕ → Pair
+abbrev again : ℕ → Pair
 again c = normal eqb (pair_of c).left (pair_of c).right (pair_of c).lefts (pair_of c).rights
 
-module _ (c : ℕ) (l : (pair_of c).left < 32) where
-  small : Small (again c)
-  small = normal_small _ _ (pair_of c).lefts (pair_of c).rights l (omega arith) (names_four (c / 2 ^ 16 % 2 ^ 16)) (names_four (c % 2 ^ 16))
-
-  -- its code is the number again: it is the pair of the number, which stands
-  same_pair : code (again c) ≡ c → pair_of c ≡ again c
-  same_pair e = ap pair_of (sym e) ∙ decodes (again c) small
-
-  pub code_stands : code (again c) ≡ c → stands c ≡ true
-  code_stands e =
-      let q = same_pair e in
-      let f : ℕ → ℕ = name eqb ((pair_of c).lefts ++ (pair_of c).rights) in
-      yes _ (and_make _ _ (lt→ltb _ _ l) (and_make _ _ (eq_eqb _ _ (ap code q ∙ e))
-      (in_order_yes (pair_of c) (map_append f (pair_of c).lefts (pair_of c).rights ∙ (λ k. (sym q k).lefts ++ (sym q k).rights)))))
-
-  pub from_code : (m : Pair) → m ≡ again c → code m ≡ c → Some m ≡ cond (stands c) (Some (pair_of c)) None
-  from_code m a e =
-      let h = sym (ap code a) ∙ e in
-      ap Some (a ∙ sym (same_pair h)) ∙ sym (cond-true _ _ _ (code_stands h))
-
 -- a number that stands is the code of its pair named again
-pub stands_code : (c : ℕ) → T (stands c) → code (again c) ≡ c
+stands_code : (c : ℕ) → stands c ≡ true → code (again c) ≡ c
 stands_code c t =
-    let (a, t1) = and_both _ _ t in
-    let (b, n) = and_both _ _ t1 in
-    let L = (pair_of c).lefts in
-    let R = (pair_of c).rights in
-    let e = sym (same_list→ _ _ n) in
-    let m = model eqb (pair_of c).left (pair_of c).right L R (L ++ R) e in
-    let w : pair_of c ≡ again c = (λ k. record { left = (pair_of c).left; right = (pair_of c).right; lefts = sym (take-append_seam L R) k; rights = sym (drop-append_seam L R) k }) ∙ m in
-    ap code (sym w) ∙ eqb→eq _ _ b
+    let a = and_parts _ _ (and_parts _ _ t).1 in
+    let ls = (pair_of c).lefts in
+    let rs = (pair_of c).rights in
+    let e = sym ((bytes_decides _ _).0 a.1) in
+    let w : pair_of c ≡ again c = model eqb ls rs ls rs e (λ i. length ls) (pair_of c).left (pair_of c).right in
+    ap code (sym w) ∙ eqb-true _ _ a.0
 
-pub not_code : (c : ℕ) (m : Pair) → m ≡ again c → (code m ≡ c → ⊥) → None ≡ cond (stands c) (Some (pair_of c)) None
-not_code c m a h = sym (cond-false _ _ _ (no (stands c) (λ t. h (ap code a ∙ stands_code c t))))
+-- names in order are below their number
+order_small : (ns : List ℕ) → InOrder ns → (n : ℕ) → In n ns → n < length ns
+order_small ns e n i =
+    let (x, j, p) = of_map (name eqb ns) n ns (subst (In n) (sym e) i) in
+    omega (arith, p, names_small ns x j)
 
 -- stored pairs
 module _ (p : stored.Pair) where
-  abbrev all : List ℕ
-  all = map number (held p.names)
-
-  whole : take p.split all ++ drop p.split all ≡ all
-  whole = take-append-drop p.split all
-
-  many : length all ≡ length (held p.names)
-  many = length-map (held p.names) number
-
-  small_name : (n : ℕ) → In n (take p.split all ++ drop p.split all) → n < 15
-  small_name n i =
-      let a = order_small all p.in_order n (subst (In n) whole i) in
-      let b = held_few p.names in
-      let c = many in
-      omega (arith, a, b, c)
+  names_few : (ns : List ℕ) → length ns ≤ 4 → ((n : ℕ) → In n ns → In n ((pair_model p).lefts ++ (pair_model p).rights)) → Few ns
+  names_few ns few sub = (
+    few,
+    λ n i.
+        omega (arith, order_small _ p.in_order n (sub n i), length-append (pair_model p).lefts (pair_model p).rights, sides_few p),
+  )
 
   pub pair_small : Small (pair_model p)
   pair_small =
+      let few = sides_few p in
       record {
         left = p.left_small;
         right = p.right_small;
-        lefts = (
-          (let e = length-take-le p.split all (let a = p.split_in in let b = many in omega (arith, a, b)) in let f = p.left_few in omega (arith, e, f)),
-          λ n i. small_name n (in_left n (take p.split all) (drop p.split all) i),
-        );
-        rights = (
-          (let e = length-drop p.split all in let f = p.right_few in let b = many in omega (arith, e, f, b)),
-          λ n i. small_name n (in_right n (take p.split all) (drop p.split all) i),
-        );
+        lefts = names_few _ few.0 (λ n. in_left n _ _);
+        rights = names_few _ few.1 (λ n. in_right n _ _);
       }
 
-  pub pair_stands : stands (code (pair_model p)) ≡ true
+  pair_stands : stands (code (pair_model p)) ≡ true
   pair_stands =
-      yes _
-      (subst (λ (q : Pair). T (ltb q.left 32 && (eqb (code q) (code (pair_model p)) && in_order q))) (sym (decodes (pair_model p) pair_small))
-      (and_make (ltb p.left 32) _ (lt→ltb p.left 32 p.left_small)
-      (and_make (eqb (code (pair_model p)) (code (pair_model p))) (in_order (pair_model p)) (eqb_refl (code (pair_model p)))
-      (in_order_yes (pair_model p) (subst InOrder (sym whole) p.in_order)))))
+      subst (λ (q : Pair). (ltb q.left 32 && (eqb (code q) (code (pair_model p)) && in_order q)) ≡ true) (sym (decodes (pair_model p) pair_small))
+      (and_from _ _ (lt-ltb _ _ p.left_small) (and_from _ _ (eq-eqb _ _ refl) (in_order_yes (pair_model p) p.in_order)))
 
   pub decoded_again : decoded (code (pair_model p)) ≡ Some (pair_model p)
   decoded_again = cond-true _ _ _ pair_stands ∙ ap Some (decodes (pair_model p) pair_small)
+
+-- the pair of a number's parts is the number's pair, where its code is the number
+pub answered : (c : ℕ) (p : stored.Pair) → Some (pair_model p) ≡ pair_of_values eqb (pair_of c).left (pair_of c).right (pair_of c).lefts (pair_of c).rights →
+    option_map pair_model (then_some (eqb (code (pair_model p)) c) p) ≡ decoded c
+answered c p e = go (eqb (code (pair_model p)) c) refl
+  where
+    same : pair_model p ≡ again c
+    same = of_values eqb (pair_of c).lefts (pair_of c).rights (pair_of c).left (pair_of c).right (pair_model p) e
+
+    go : (b : Bool) → eqb (code (pair_model p)) c ≡ b → option_map pair_model (then_some b p) ≡ decoded c
+    go true q = sym (decoded_again p) ∙ ap decoded (eqb-true _ _ q)
+    go false q = sym (cond-false _ _ _ (false_from_ne_true (stands c) (λ t. eqb-false _ _ q (ap code same ∙ stands_code c t))))

@@ -16,14 +16,10 @@ fn digit(names: &[Name], k: usize) -> u64
     ensures is { result ≡ slice_index_or (map number names.now) k 15 }
     ensures small { result < 256 }
 {
-    if k < names.len() {
-        names[k].0 as u64
-    } else {
-        15
-    }
+    names.get(k).map_or(15, |n| u64::from(n.0))
 }
 
-// The digits of one side.
+// The digits of one side, written out: the sum in a fold would have no bound.
 fn four(names: &[Name]) -> u64
     ensures is { result ≡ four_of (map number names.now) }
     ensures small { result < 2 ^ 21 }
@@ -36,10 +32,8 @@ fn used(digits: &[u8]) -> BoundedVec<u8, 4>
     ensures { held result ≡ take 4 (filter used_digit digits.now) }
 {
     let mut out = BoundedVec::new(0u8);
-    for d in digits {
-        if *d != 15 {
-            let _ = out.push(*d);
-        }
+    for d in digits.iter().filter(|d| **d != 15) {
+        let _ = out.push(*d);
     }
     out
 }
@@ -64,8 +58,8 @@ impl Pair {
         ensures below { result < 2 ^ 42 }
         ensures back { decoded result ≡ Some (pair_model self.now) }
     {
-        self.left as u64 * 0x20_0000_0000
-            + self.right as u64 * 0x1_0000_0000
+        u64::from(self.left) * 0x20_0000_0000
+            + u64::from(self.right) * 0x1_0000_0000
             + four(self.lefts()) * 0x1_0000
             + four(self.rights())
     }
@@ -75,16 +69,11 @@ impl Pair {
         ensures is { option_map pair_model result ≡ decoded code }
         ensures exact { IfSome result (λ p. code_of (pair_model p) ≡ code) }
     {
-        let left = code / 0x20_0000_0000;
-        if left >= 32 {
-            return None;
-        }
+        let left = u8::try_from(code / 0x20_0000_0000).ok()?;
         let right = code / 0x1_0000_0000 % 32;
         let lefts = side_names(code / 0x1_0000 % 0x1_0000);
         let rights = side_names(code % 0x1_0000);
-        match Pair::of(left as u8, right as u8, lefts.as_slice(), rights.as_slice()) {
-            Some(p) => { if p.code() == code { Some(p) } else { None } }
-            None => None,
-        }
+        let pair = Pair::of(left, right as u8, lefts.as_slice(), rights.as_slice())?;
+        (pair.code() == code).then_some(pair)
     }
 }

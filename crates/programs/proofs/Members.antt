@@ -4,10 +4,6 @@ use Rattle.std.proofs.lemmas.Bool.{and_parts, cond-true}
 use Rattle.lists.specs.Every.{every}
 use Rattle.programs.specs.Places.{In}
 
-pub map_map : {A B C : Type 0} (f : A → B) (g : B → C) (xs : List A) → map g (map f xs) ≡ map (λ x. g (f x)) xs
-map_map f g [] = refl
-map_map f g (x ∷ xs) = ap (λ l. g (f x) ∷ l) (map_map f g xs)
-
 pub map_same_in : {A B : Type 0} (f g : A → B) (xs : List A) → ((x : A) → In x xs → f x ≡ g x) → map f xs ≡ map g xs
 map_same_in f g [] h = refl
 map_same_in f g (x ∷ xs) h = λ i. h x (inl refl) i ∷ map_same_in f g xs (λ y j. h y (inr j)) i

@@ -1,6 +1,6 @@
 -- The program that a page tables moves as the page does.
 use Rattle.std.proofs.Common.{◌≡◌, ℕ, zero, suc, ◌+◌, ◌<◌, Bool, true, false, ◌&&◌, eqb, ltb, leb, List, [], ◌∷◌, map, length, get_or, sym, refl, ap, ◌∙◌, subst, inl, inr, arith}
-use mathlib.Core.List.{head-eq_of_cons-eq, tail-eq_of_cons-eq, nil≢cons, cons≢nil}
+use mathlib.Core.List.{head-eq_of_cons-eq, tail-eq_of_cons-eq, nil≢cons, cons≢nil, map-map}
 use lib.ListN.{length-map}
 use Rattle.std.proofs.lemmas.Bool.{and_parts, eq-eqb, ne_eqb, eqb-true, ltb-true, false≢true}
 use Rattle.lists.specs.Every.{every}
@@ -13,7 +13,7 @@ use Rattle.pages.specs.Formed.{slots_at, source_stands, shown_stands, line_stand
 use Rattle.programs.specs.Places.{In, Place, Act, Moves, Shaped, after, carry, moved_by, shows, value_of}
 use Rattle.programs.specs.Programs.{Expr, var, val, Behaviour, input, output, sum, call, Among, at, bind, replace, replace_each, one, several, Clause, Step, OUT, IN, SUM, ID}
 use Rattle.programs.specs.Tables.{lines_of, numbers, source, acting, summand, summands, clauses, program, MovesExactly}
-use Rattle.programs.proofs.Members.{map_map, map_same_in, of_kept, in_kept, every_in}
+use Rattle.programs.proofs.Members.{map_same_in, of_kept, in_kept, every_in}
 
 numbers_length : (n k : ℕ) → length (numbers n k) ≡ n
 numbers_length zero k = refl
@@ -71,15 +71,15 @@ module _ {V : Type 0} where
   shown_sources : (vs : List V) (d : V) (x : _) (ss : List Source) → every (source_stands (Show x) (length vs)) ss ≡ true →
       map (at (slots_of vs)) (map (source (length vs)) ss) ≡ map val (carry vs d ss)
   shown_sources vs d x ss h =
-      map_map (source (length vs)) (at (slots_of vs)) ss
-      ∙ map_same_in _ _ ss (λ s i. shown_source vs d x s (every_in (source_stands (Show x) (length vs)) s ss h i)) ∙ sym (map_map (value_of vs d) val ss)
+      map-map (at (slots_of vs)) (source (length vs)) ss
+      ∙ map_same_in _ _ ss (λ s i. shown_source vs d x s (every_in (source_stands (Show x) (length vs)) s ss h i)) ∙ sym (map-map val (value_of vs d) ss)
 
   taken_sources : (vs : List V) (d : V) (ss : List Source) → every (source_stands Take (length vs)) ss ≡ true →
       map (at (one (length vs) d)) (map (at (bind (length vs) (slots_of vs))) (map (source (length vs)) ss)) ≡ map val (carry vs d ss)
   taken_sources vs d ss h =
-      ap (map (at (one (length vs) d))) (map_map (source (length vs)) (at (bind (length vs) (slots_of vs))) ss)
-      ∙ map_map (λ s. at (bind (length vs) (slots_of vs)) (source (length vs) s)) (at (one (length vs) d)) ss
-      ∙ map_same_in _ _ ss (λ s i. taken_source vs d s (every_in (source_stands Take (length vs)) s ss h i)) ∙ sym (map_map (value_of vs d) val ss)
+      ap (map (at (one (length vs) d))) (map-map (at (bind (length vs) (slots_of vs))) (source (length vs)) ss)
+      ∙ map-map (at (one (length vs) d)) (λ s. at (bind (length vs) (slots_of vs)) (source (length vs) s)) ss
+      ∙ map_same_in _ _ ss (λ s i. taken_source vs d s (every_in (source_stands Take (length vs)) s ss h i)) ∙ sym (map-map val (value_of vs d) ss)
 
   module _ (D : ℕ → Clause V) (vs : List V) (l : LineModel) where
     abbrev args : List (Expr V)

@@ -14,15 +14,14 @@ pub mod text;
 use pages::page::Page;
 use pages::{Line, LineKind, Slot, Source};
 
+// The slots and the value that a line moves with are two parameters: a struct of both would be made at each call only to
+// be taken apart in it.
+
 // The value of a slot; the other value where there is no such slot.
 fn slot_or<V: Copy>(slots: &[V], slot: Slot, other: V) -> V
     ensures { result ≡ value_of slots.now other (Source.Kept slot) }
 {
-    if (slot.0 as usize) < slots.len() {
-        slots[slot.0 as usize]
-    } else {
-        other
-    }
+    slots.get(usize::from(slot.0)).copied().unwrap_or(other)
 }
 
 // What a slot of the next screen gets by its source, where the line moves with this value.
@@ -51,10 +50,7 @@ pub fn moved_by<V: Copy>(page: &Page, number: usize, slots: &[V], value: V) -> O
     ensures is { result ≡ option_map (λ l. moved_by l.kind slots.now value) (slice_get (page_model page.now).lines number) }
     ensures exactly { MovesExactly V (page_model page.now) }
 {
-    let lines = page.lines();
-    if number < lines.len() {
-        Some(moved(&lines[number], slots, value))
-    } else {
-        None
-    }
+    page.lines()
+        .get(number)
+        .map(|line| moved(line, slots, value))
 }

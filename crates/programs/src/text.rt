@@ -1,18 +1,41 @@
 // A page written as a program, a clause for each screen: Screen1(x0) <= p3!x0.Screen0 + p1?y.Screen1(y).
+ghost use Rattle.std.specs.Iterator.{IsFinite};
+
 use pages::page::Page;
-use pages::{Line, LineKind, Source};
+use pages::{Line, LineKind, Slot, Source};
 use std::fmt;
 
-// Parameters or arguments in brackets; none where there are none.
-fn bracket<W: fmt::Write>(place: usize, f: &mut fmt::Formatter<W>) -> fmt::Result {
-    if place == 0 {
-        write!(f, "(")
-    } else {
-        write!(f, ", ")
+// A parameter, x0, x1, .., or the value taken, y.
+#[derive(Clone, Copy)]
+struct Variable(Source);
+
+impl fmt::Display for Variable {
+    fn fmt<W: fmt::Write>(&self, f: &mut fmt::Formatter<W>) -> fmt::Result {
+        match self.0 {
+            Source::Kept(slot) => write!(f, "x{}", slot.0),
+            Source::Taken => write!(f, "y"),
+        }
     }
 }
 
-// A screen with its slots as parameters x0, x1, ..
+// Parameters or arguments in brackets; nothing where there are none.
+fn write_bracket<W: fmt::Write, I: Iterator<Item = Source>>(
+    mut sources: I,
+    f: &mut fmt::Formatter<W>,
+) -> fmt::Result
+    requires { I.Iterator.can_next sources × IsFinite (I.Iterator.remaining sources) }
+{
+    let Some(first) = sources.next() else {
+        return Ok(());
+    };
+    write!(f, "({}", Variable(first))?;
+    for source in sources {
+        write!(f, ", {}", Variable(source))?;
+    }
+    write!(f, ")")
+}
+
+// A screen with its slots as parameters.
 #[derive(Clone, Copy)]
 struct Head {
     screen: usize,
@@ -22,19 +45,11 @@ struct Head {
 impl fmt::Display for Head {
     fn fmt<W: fmt::Write>(&self, f: &mut fmt::Formatter<W>) -> fmt::Result {
         write!(f, "Screen{}", self.screen)?;
-        for slot in 0..self.slots as usize {
-            bracket(slot, f)?;
-            write!(f, "x{slot}")?;
-        }
-        if self.slots > 0 {
-            write!(f, ")")
-        } else {
-            Ok(())
-        }
+        write_bracket((0..self.slots).map(|slot| Source::Kept(Slot(slot))), f)
     }
 }
 
-// A line as a summand; the value taken is y.
+// A line as a summand.
 #[derive(Clone, Copy)]
 struct Summand<'a>(&'a Line);
 
@@ -45,19 +60,7 @@ impl fmt::Display for Summand<'_> {
             LineKind::Take => write!(f, "p{}?y.Screen{}", line.port.0, line.next)?,
             LineKind::Show(slot) => write!(f, "p{}!x{}.Screen{}", line.port.0, slot.0, line.next)?,
         }
-        let sources = line.sources.as_slice();
-        for (place, source) in sources.iter().enumerate() {
-            bracket(place, f)?;
-            match source {
-                Source::Kept(slot) => write!(f, "x{}", slot.0)?,
-                Source::Taken => write!(f, "y")?,
-            }
-        }
-        if sources.is_empty() {
-            Ok(())
-        } else {
-            write!(f, ")")
-        }
+        write_bracket(line.sources.as_slice().iter().copied(), f)
     }
 }
 
@@ -67,19 +70,15 @@ fn write_sum<W: fmt::Write>(
     screen: usize,
     f: &mut fmt::Formatter<W>,
 ) -> fmt::Result {
-    let mut empty = true;
-    for line in lines {
-        if line.from as usize == screen {
-            let joint = if empty { " <= " } else { " + " };
-            write!(f, "{joint}{}", Summand(line))?;
-            empty = false;
-        }
+    let mut leaving = lines.iter().filter(|line| usize::from(line.from) == screen);
+    let Some(first) = leaving.next() else {
+        return writeln!(f, " <= 0");
+    };
+    write!(f, " <= {}", Summand(first))?;
+    for line in leaving {
+        write!(f, " + {}", Summand(line))?;
     }
-    if empty {
-        writeln!(f, " <= 0")
-    } else {
-        writeln!(f)
-    }
+    writeln!(f)
 }
 
 #[derive(Clone, Copy)]
@@ -89,14 +88,11 @@ impl fmt::Display for AsProgram<'_> {
     fn fmt<W: fmt::Write>(&self, f: &mut fmt::Formatter<W>) -> fmt::Result {
         let page = self.0;
         for (screen, s) in page.screens().iter().enumerate() {
-            write!(
-                f,
-                "{}",
-                Head {
-                    screen,
-                    slots: s.slots
-                }
-            )?;
+            let head = Head {
+                screen,
+                slots: s.slots,
+            };
+            write!(f, "{head}")?;
             write_sum(page.lines(), screen, f)?;
         }
         Ok(())

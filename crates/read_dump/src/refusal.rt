@@ -5,6 +5,8 @@ use std::fmt;
 use texts::faults::TextQuestion;
 use texts::lines::line;
 
+// The words are this program's own, and the enums are other crates': so they are told by functions, not by Display.
+
 fn text_question(question: TextQuestion) -> &'static str {
     match question {
         TextQuestion::Side => "Is the side 0 or 1?",
@@ -108,16 +110,14 @@ mod tests {
     use std::test::Fail;
 
     fn says(rt: &impl Abort, heap: Global, text: &[u8], words: &str) -> Result<(), Fail> {
-        match read(text) {
-            Ok(_) => Err(Fail::new("accepted")),
-            Err(fault) => {
-                assert_eq!(rt;
-                    format!(in heap; "{}", Refusal { fault, text })?.as_str(),
-                    words
-                );
-                Ok(())
-            },
-        }
+        let Err(fault) = read(text) else {
+            return Err(Fail::new("accepted"));
+        };
+        assert_eq!(rt;
+            format!(in heap; "{}", Refusal { fault, text })?.as_str(),
+            words
+        );
+        Ok(())
     }
 
     #[test]

@@ -62,13 +62,15 @@ impl fmt::Display for Sentence<'_> {
     }
 }
 
+// Screens and lines are written alike. One function for both, given the words of one of them as a closure, has no proof:
+// what it gives borrows from its item.
 fn write_screens<W: fmt::Write>(screens: &[Screen], f: &mut fmt::Formatter<W>) -> fmt::Result {
     writeln!(f, "It has {}.", Counted(screens.len(), "screen"))?;
     for (number, screen) in screens.iter().enumerate() {
         writeln!(
             f,
             "  screen {number}: {}",
-            Counted(screen.slots as usize, "slot")
+            Counted(usize::from(screen.slots), "slot")
         )?;
     }
     Ok(())

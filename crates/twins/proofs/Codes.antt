@@ -1,7 +1,11 @@
 -- A pair comes back from its code.
-use Rattle.std.proofs.Common.{◌≡◌, ℕ, ◌+◌, ◌*◌, ◌/◌, ◌%◌, ◌^◌, ◌<◌, ◌≤◌, Bool, true, false, cond, not, ◌&&◌, T, eqb, List, [], ◌∷◌, ◌++◌, map, length, filter, sym, refl, ap, ◌∙◌, subst, inl, inr, arith, eqb→eq, ltb→lt, lt→ltb, length-append}
+use Rattle.std.proofs.Common.{◌≡◌, ℕ, ◌+◌, ◌*◌, ◌/◌, ◌%◌, ◌^◌, ◌<◌, ◌≤◌, Bool, cond, not, ◌&&◌, T, eqb, List, [], ◌∷◌, ◌++◌, map, length, filter, sym, refl, ap, ◌∙◌, subst, inl, inr, arith, eqb→eq, ltb→lt, lt→ltb, length-append}
 use lib.ListN.{length-map}
 use lib.Dec.{eqb_refl}
+use Rattle.std.proofs.Math.Facts.{yes_eqb}
+use Rattle.std.specs.Bool.{passes}
+use Rattle.std.specs.Cmp.Lexicographic.{bytes_decides}
+use Rattle.std.proofs.lemmas.Bool.{ne_eqb, cond-true}
 use Rattle.games.specs.Counts.{within}
 use Rattle.games.specs.Meaning.{Challenge}
 use Rattle.games.specs.declared.Side.{Side}
@@ -11,7 +15,7 @@ use Rattle.programs.specs.Places.{In, carry, value_of, moved}
 use Rattle.twins.proofs.Counts.{counted_recoded}
 use Rattle.twins.proofs.Judged.{made}
 use Rattle.twins.proofs.Lists.{in_left, in_right, of_map, of_kept}
-use Rattle.twins.proofs.Logic.{and_both, and_make, eq_eqb, eqb_false}
+use Rattle.twins.proofs.Logic.{and_both, and_make, yes}
 use Rattle.twins.proofs.Names.{numbers}
 use Rattle.twins.proofs.Naming.{normal_again, names_small}
 use Rattle.twins.specs.Codes.{four, code, names_of, Few, Small, Decodes, same_list, usable, recoded, coded, CodesCount}
@@ -28,7 +32,7 @@ pub kept : (ns ds : List ℕ) → ((n : ℕ) → In n ns → n < 15) → filter 
 kept [] ds h = refl
 kept (n ∷ ns) ds h =
     let hn = h n (inl refl) in
-    rw (eqb_false n 15 (λ e. omega (arith, e))) (ap (λ (t : List ℕ). n ∷ t) (kept ns ds (λ m i. h m (inr i))))
+    rw (ne_eqb n 15 (λ e. omega (arith, e))) (ap (λ (t : List ℕ). n ∷ t) (kept ns ds (λ m i. h m (inr i))))
 
 -- the four digits of a number
 abbrev digits : ℕ → List ℕ
@@ -86,15 +90,10 @@ decodes p s =
     }
 
 pub same_list→ : (ms ns : List ℕ) → T (same_list ms ns) → ms ≡ ns
-same_list→ [] [] t = refl
-same_list→ [] (n ∷ ns) t = absurd t
-same_list→ (m ∷ ms) [] t = absurd t
-same_list→ (m ∷ ms) (n ∷ ns) t =
-    let (a, b) = and_both (eqb m n) (same_list ms ns) t in λ i. eqb→eq m n a i ∷ same_list→ ms ns b i
+same_list→ ms ns t = (bytes_decides ms ns).0 (yes _ t)
 
-pub same_list_refl : (ns : List ℕ) → T (same_list ns ns)
-same_list_refl [] = tt
-same_list_refl (n ∷ ns) = and_make (eqb n n) (same_list ns ns) (eqb_refl n) (same_list_refl ns)
+pub same_list_from : {ms ns : List ℕ} → ms ≡ ns → T (same_list ms ns)
+same_list_from {ms} {ns} e = passes _ ((bytes_decides ms ns).1 e)
 
 module _ (g h : PageModel) where
   -- what the test says
@@ -125,9 +124,8 @@ module _ (g h : PageModel) where
   pub →usable : (p : Pair) → Usable p → T (usable g h p)
   →usable p u =
       and_make _ _ (lt→ltb _ _ u.left) (and_make _ _ (lt→ltb _ _ u.right)
-      (and_make _ _ (eq_eqb _ _ u.lefts) (and_make _ _ (eq_eqb _ _ u.rights)
-      (and_make _ _ (subst (λ (ns : List ℕ). T (same_list ns p.lefts)) (sym u.left_normal) (same_list_refl p.lefts))
-      (subst (λ (ns : List ℕ). T (same_list ns p.rights)) (sym u.right_normal) (same_list_refl p.rights))))))
+      (and_make _ _ (yes_eqb u.lefts) (and_make _ _ (yes_eqb u.rights)
+      (and_make _ _ (same_list_from u.left_normal) (same_list_from u.right_normal)))))
 
   module _ (fg : Fits g) (fh : Fits h) (zg : Sized g) (zh : Sized h) where
     pub usable_small : (p : Pair) → Usable p → Small p
@@ -186,11 +184,7 @@ module _ (g h : PageModel) where
         same q u =
             subst (λ (k : Pair). cond (eqb (code k) (code q) && usable g h k) (map (recoded code) (meaning r g h k)) [] ≡ map (recoded code) (meaning r g h q))
             (sym (decodes q (usable_small q u)))
-            (passes _ _ _ (and_make _ _ (eqb_refl (code q)) (→usable q u)))
-          where
-            passes : (b : Bool) (xs ys : List (Challenge ℕ)) → T b → cond b xs ys ≡ xs
-            passes true xs ys t = refl
-            passes false xs ys t = absurd t
+            (cond-true _ _ _ (yes _ (and_make _ _ (eqb_refl (code q)) (→usable q u))))
 
         closed : (q : Pair) → Usable q → (c : Challenge Pair) → In c (meaning r g h q) → (y : Pair) → In y c.replies → Usable y
         closed q u c i y j =

@@ -3,6 +3,7 @@ use Rattle.std.proofs.Common.{◌≡◌, ℕ, zero, suc, ◌+◌, ◌<◌, Bool,
 use lib.Dec.{not_T}
 use Rattle.games.specs.Counts.{forces, within, has_count}
 use Rattle.games.specs.Meaning.{Challenge, Challenges}
+use Rattle.std.proofs.lemmas.List.Folds.{list_all-map}
 use Rattle.lists.specs.Every.{every, any}
 use Rattle.programs.specs.Places.{In}
 use Rattle.twins.proofs.Games.{wins_more, wins_or_survives}
@@ -103,10 +104,6 @@ pub any_map : {A B : Type 0} (f : A → B) (t : B → Bool) (xs : List A) → an
 any_map f t [] = refl
 any_map f t (x ∷ xs) = ap (λ (b : Bool). t (f x) || b) (any_map f t xs)
 
-pub all_map : {A B : Type 0} (f : A → B) (t : B → Bool) (xs : List A) → every t (map f xs) ≡ every (λ x. t (f x)) xs
-all_map f t [] = refl
-all_map f t (x ∷ xs) = ap (λ (b : Bool). t (f x) && b) (all_map f t xs)
-
 pub any_same : {A : Type 0} (t u : A → Bool) (xs : List A) → ((x : A) → In x xs → t x ≡ u x) → any t xs ≡ any u xs
 any_same t u [] h = refl
 any_same t u (x ∷ xs) h = λ i. h x (inl refl) i || any_same t u xs (λ y j. h y (inr j)) i
@@ -123,7 +120,7 @@ module _ {X Y : Type 0} (M : Challenges X) (N : Challenges Y) (f : X → Y) (P :
   forced_recoded t u h x p =
       ap (any (λ (c : Challenge Y). every t c.replies)) (same x p)
       ∙ any_map (recoded f) (λ (c : Challenge Y). every t c.replies) (M x)
-      ∙ any_same _ _ (M x) (λ c i. all_map f t c.replies ∙ all_same _ _ c.replies (λ y j. h y (closed x p c i y j)))
+      ∙ any_same _ _ (M x) (λ c i. list_all-map t f c.replies ∙ all_same _ _ c.replies (λ y j. h y (closed x p c i y j)))
 
   pub counted_recoded : (n : ℕ) (x : X) → P x → within N n (f x) ≡ within M n x
   counted_recoded zero x p = refl

@@ -1,13 +1,16 @@
 -- The match at places follows the match at pairs.
 use Rattle.std.proofs.Common.{◌≡◌, ℕ, ◌<◌, Bool, T, eqb, List, ◌∷◌, ◌++◌, map, filter, sym, refl, ap, ◌∙◌, subst, inl, inr, ⊎_elim, arith, eqb→eq}
-use mathlib.Core.Bool.{beq}
+use Rattle.std.proofs.Math.Facts.{yes_eqb}
+use Rattle.std.specs.Bool.{passes}
+use Rattle.std.specs.Cmp.{booleans_Decides}
+use Rattle.std.proofs.lemmas.List.{map-append}
 use Rattle.games.specs.declared.Side.{Side}
 use Rattle.games.specs.declared.Side.TheVariants.{Left, Right}
 use Rattle.pages.specs.declared.Port.{Port}
-use Rattle.twins.proofs.Logic.{and_both, and_make, beq_eq, beq_refl, eq_eqb}
+use Rattle.twins.proofs.Logic.{and_both, and_make, yes}
 use Rattle.pages.specs.Model.{LineModel, PageModel}
 use Rattle.programs.specs.Places.{In, Place, Act, Moves, after, moved, shows}
-use Rattle.twins.proofs.Lists.{in_left, in_right, in_map, of_map, map_append, in_moved, moved_map, moved_again, below_above, of_kept, in_kept}
+use Rattle.twins.proofs.Lists.{in_left, in_right, in_map, of_map, in_moved, moved_map, moved_again, below_above, of_kept, in_kept}
 use Rattle.twins.proofs.Steps.{value, named, Steady, stands_steady, step}
 use Rattle.twins.specs.Games.{Follows}
 use Rattle.twins.specs.Pairs.{Pair, after_both, fresh, above, meets, Rule, asks, Match, PairChallenge, side_of}
@@ -30,22 +33,22 @@ meets→ p l m t =
     record {
       left = eqb→eq _ _ a.0;
       right = eqb→eq _ _ b.0;
-      kind = beq_eq _ _ c.0;
+      kind = (booleans_Decides _ _).0 (yes _ c.0);
       port = let mk : ℕ → Port = λ n. record { 0 = n } in ap mk (eqb→eq l.port.0 m.port.0 d.0);
       name = eqb→eq _ _ d.1;
     }
 
 pub →meets : (p : Pair) (l m : LineModel) → Meet p l m → T (meets p l m)
 →meets p l m h =
-    and_make _ _ (eq_eqb _ _ h.left) (and_make _ _ (eq_eqb _ _ h.right)
-    (and_make _ _ (subst (λ (b : Bool). T (beq (shows l.kind) b)) h.kind (beq_refl (shows l.kind)))
-    (and_make _ _ (eq_eqb _ _ (ap (λ (q : Port). q.0) h.port)) (eq_eqb _ _ h.name))))
+    and_make _ _ (yes_eqb h.left) (and_make _ _ (yes_eqb h.right)
+    (and_make _ _ (passes _ ((booleans_Decides _ _).1 h.kind))
+    (and_make _ _ (yes_eqb (ap (λ (q : Port). q.0) h.port)) (yes_eqb h.name))))
 
 module _ {V : Type 0} (Good : List (V × ℕ) → Type 0) (p : Pair) (w : Places V) (i : Instance Good p w) where
   pub names_below : (z : V × ℕ) → In z (i.ls ++ i.rs) → z.1 < fresh p
   names_below z j =
       subst (λ (ns : List ℕ). z.1 < above ns)
-      (map_append named i.ls i.rs ∙ sym (λ k. i.left_names k ++ i.right_names k))
+      (map-append named i.ls i.rs ∙ sym (λ k. i.left_names k ++ i.right_names k))
       (below_above z.1 (map named (i.ls ++ i.rs)) (in_map named z (i.ls ++ i.rs) j))
 
   pub left_moved : (l : LineModel) (v : V) → moved l w.lefts.slots v ≡ (moved l i.ls (v, fresh p)).0
@@ -118,7 +121,7 @@ module _ {V : Type 0} (same : V → V → Bool) (eqv : Equivalence same) where
     follows_by : (p : Pair) (w : Places V) → Instance (Stands same) p w → (s : Side) (ok : T (asks r s)) (c : (a : Act V) × (q : Place V) × Moves (side_of g h s) (place_at w s) a q) →
         (d : PairChallenge r g h p) × ((p' : Pair) → (Match r g h).Reply p d p' → (w' : Places V) × (PlaceMatch same r g h).Reply w (s, ok, c) w' × Instance (Stands same) p' w')
     follows_by p w i Left ok (a, q, (l, il, leaves, kind, port, mv, to)) = (
-      (Left, ok, (l, in_kept (λ (k : LineModel). eqb k.from p.left) l g.lines il (eq_eqb _ _ (leaves ∙ sym i.left)))),
+      (Left, ok, (l, in_kept (λ (k : LineModel). eqb k.from p.left) l g.lines il (yes_eqb (leaves ∙ sym i.left)))),
       λ p' j.
           let (m, jm, e) = of_map (λ (m : LineModel). after_both p l m) p' (filter (λ (m : LineModel). meets p l m) h.lines) j in
           let (im, t) = of_kept (λ (m : LineModel). meets p l m) m h.lines jm in
@@ -140,7 +143,7 @@ module _ {V : Type 0} (same : V → V → Bool) (eqv : Equivalence same) where
           ),
     )
     follows_by p w i Right ok (a, q, (m, im, leaves, kind, port, mv, to)) = (
-      (Right, ok, (m, in_kept (λ (k : LineModel). eqb k.from p.right) m h.lines im (eq_eqb _ _ (leaves ∙ sym i.right)))),
+      (Right, ok, (m, in_kept (λ (k : LineModel). eqb k.from p.right) m h.lines im (yes_eqb (leaves ∙ sym i.right)))),
       λ p' j.
           let (l, jl, e) = of_map (λ (l : LineModel). after_both p l m) p' (filter (λ (l : LineModel). meets p l m) g.lines) j in
           let (il, t) = of_kept (λ (l : LineModel). meets p l m) l g.lines jl in

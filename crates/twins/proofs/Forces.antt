@@ -1,5 +1,5 @@
 -- The match at pairs follows the match at places, where names stand for different values and there are enough values.
-use Rattle.std.proofs.Common.{◌≡◌, ℕ, zero, suc, ◌<◌, ◌≤◌, Bool, true, false, cond, not, T, eqb, List, [], ◌∷◌, ◌++◌, map, length, get_or, filter, sym, refl, ap, ◌∙◌, subst, inl, inr, ⊎_elim, arith, eqb→eq, T_not, length-append}
+use Rattle.std.proofs.Common.{◌≡◌, ℕ, suc, ◌<◌, ◌≤◌, Bool, true, false, cond, not, T, eqb, List, [], ◌∷◌, ◌++◌, map, length, filter, sym, refl, ap, ◌∙◌, subst, inl, inr, ⊎_elim, arith, eqb→eq, T_not, length-append}
 use lib.ListN.{length-map}
 use Rattle.games.specs.declared.Side.{Side}
 use Rattle.games.specs.declared.Side.TheVariants.{Left, Right}
@@ -10,18 +10,12 @@ use Rattle.pages.specs.Formed.{shown_stands}
 use Rattle.pages.specs.Model.{LineModel, PageModel}
 use Rattle.programs.specs.Places.{moved_by, In, Act, Moves, after, moved, value_of, shows}
 use Rattle.twins.proofs.Follows.{Meet, →meets, left_moved, right_moved, left_name, right_name}
-use Rattle.twins.proofs.Lists.{in_left, in_right, in_map, in_get_or, in_moved, moved_again, of_kept, in_kept}
+use Rattle.twins.proofs.Lists.{in_left, in_right, in_map, in_range, in_get_or, in_moved, moved_again, of_kept, in_kept}
 use Rattle.twins.proofs.Steps.{value, named, apart_steady, step}
 use Rattle.twins.specs.Fits.{Fits, Shaped, arity}
 use Rattle.twins.specs.Games.{Follows}
 use Rattle.twins.specs.Pairs.{Pair, after_both, fresh, meets, Rule, asks, Match, replies, lines_of, side_of}
 use Rattle.twins.specs.Twins.{Places, Instance, Apart, Sharp, Different, PlaceMatch, Alike, Equivalence}
-
-pub in_range : {A : Type 0} (xs : List A) (k : ℕ) (x : A) → k < length xs → In (get_or xs k x) xs
-in_range [] zero x h = absurd (omega arith)
-in_range [] (suc k) x h = absurd (omega arith)
-in_range (y ∷ xs) zero x h = inl refl
-in_range (y ∷ xs) (suc k) x h = inr (in_range xs k x (omega arith))
 
 module _ {V : Type 0} (same : V → V → Bool) (eqv : Equivalence same) where
   -- the values that are not z's

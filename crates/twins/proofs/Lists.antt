@@ -1,6 +1,13 @@
 -- Membership, and the naturality of what pages do to lists of values.
-use Rattle.std.proofs.Common.{◌≡◌, ℕ, zero, suc, ◌<◌, Bool, true, false, cond, T, ◌⊎◌, List, [], ◌∷◌, ◌++◌, map, get_or, filter, sym, refl, ap, ◌∙◌, subst, inl, inr, ⊎_elim, arith}
+use Rattle.std.proofs.Common.{◌≡◌, ℕ, zero, suc, ◌<◌, Bool, T, ◌⊎◌, List, [], ◌∷◌, ◌++◌, map, length, get_or, filter, sym, refl, ap, ◌∙◌, subst, inl, inr, ⊎_elim, arith}
 use lib.ListN.{get_or-map}
+use Rattle.std.specs.Bool.{passes}
+use Rattle.std.proofs.lemmas.Bool.{cases_lt}
+use Rattle.std.proofs.lemmas.List.{get_or_default, get_or_past}
+use Rattle.std.proofs.lemmas.Simd.{map-map}
+use Rattle.programs.proofs.Members as members
+use Rattle.programs.proofs.Members.{map_same_in}
+use Rattle.twins.proofs.Logic.{yes}
 use Rattle.pages.specs.Model.{LineModel}
 use Rattle.pages.specs.declared.Source.{Source}
 use Rattle.pages.specs.declared.Source.TheVariants.{Kept, Taken}
@@ -33,57 +40,31 @@ of_map f y [] i = absurd i
 of_map f y (z ∷ xs) (inl e) = (z, inl refl, e)
 of_map f y (z ∷ xs) (inr i) = let r = of_map f y xs i in (r.0, inr r.1, r.2)
 
-pub map_map : {A B C : Type 0} (f : A → B) (g : B → C) (xs : List A) → map g (map f xs) ≡ map (λ x. g (f x)) xs
-map_map f g [] = refl
-map_map f g (x ∷ xs) = ap (λ l. g (f x) ∷ l) (map_map f g xs)
-
-pub map_append : {A B : Type 0} (f : A → B) (xs ys : List A) → map f (xs ++ ys) ≡ map f xs ++ map f ys
-map_append f [] ys = refl
-map_append f (x ∷ xs) ys = ap (λ l. f x ∷ l) (map_append f xs ys)
-
-pub map_same : {A B : Type 0} (f g : A → B) (xs : List A) → ((x : A) → f x ≡ g x) → map f xs ≡ map g xs
-map_same f g [] h = refl
-map_same f g (x ∷ xs) h = λ i. h x i ∷ map_same f g xs h i
-
 -- what is kept passed the test
 pub of_kept : {A : Type 0} (t : A → Bool) (x : A) (xs : List A) → In x (filter t xs) → In x xs × T (t x)
-of_kept t x [] i = absurd i
-of_kept t x (z ∷ xs) i = go (of_kept t x xs) (t z) refl i
-  where
-    go : (In x (filter t xs) → In x xs × T (t x)) → (b : Bool) → t z ≡ b → In x (cond b (z ∷ filter t xs) (filter t xs)) → In x (z ∷ xs) × T (t x)
-    go f true e (inl p) = (inl p, subst (λ y. T (t y)) (sym p) (subst T (sym e) tt))
-    go f true e (inr j) = let r = f j in (inr r.0, r.1)
-    go f false e j = let r = f j in (inr r.0, r.1)
+of_kept t x xs i = let (j, e) = members.of_kept t x xs i in (j, passes (t x) e)
 
 pub in_kept : {A : Type 0} (t : A → Bool) (x : A) (xs : List A) → In x xs → T (t x) → In x (filter t xs)
-in_kept t x [] i h = absurd i
-in_kept t x (z ∷ xs) i h = go (λ j. in_kept t x xs j h) (t z) refl i
-  where
-    go : (In x xs → In x (filter t xs)) → (b : Bool) → t z ≡ b → In x (z ∷ xs) → In x (cond b (z ∷ filter t xs) (filter t xs))
-    go f true e (inl p) = inl p
-    go f true e (inr j) = inr (f j)
-    go f false e (inl p) = absurd (subst T (ap t p ∙ e) h)
-    go f false e (inr j) = f j
+in_kept t x xs i h = members.in_kept t x xs i (yes (t x) h)
+
+pub in_range : {A : Type 0} (xs : List A) (k : ℕ) (x : A) → k < length xs → In (get_or xs k x) xs
+in_range [] k x h = absurd (omega arith)
+in_range (y ∷ xs) zero x h = inl refl
+in_range (y ∷ xs) (suc k) x h = inr (in_range xs k x (omega arith))
 
 -- a look-up gives the default or an element
 pub in_get_or : {A : Type 0} (xs : List A) (k : ℕ) (x : A) → In (get_or xs k x) (x ∷ xs)
-in_get_or [] zero x = inl refl
-in_get_or [] (suc k) x = inl refl
-in_get_or (y ∷ xs) zero x = inr (inl refl)
-in_get_or (y ∷ xs) (suc k) x = ⊎_elim inl (λ i. inr (inr i)) (in_get_or xs k x)
+in_get_or xs k x = ⊎_elim (λ h. inr (in_range xs k x h)) (λ h. inl (get_or_past xs k x h)) (cases_lt k (length xs))
 
 pub get_or_again : {A : Type 0} (xs : List A) (k : ℕ) (x : A) → get_or xs k (get_or xs k x) ≡ get_or xs k x
-get_or_again [] zero x = refl
-get_or_again [] (suc k) x = refl
-get_or_again (y ∷ xs) zero x = refl
-get_or_again (y ∷ xs) (suc k) x = get_or_again xs k x
+get_or_again xs k x = ⊎_elim (get_or_default xs k (get_or xs k x) x) (get_or_past xs k (get_or xs k x)) (cases_lt k (length xs))
 
 pub value_map : {A B : Type 0} (f : A → B) (xs : List A) (x : A) (s : Source) → value_of (map f xs) (f x) s ≡ f (value_of xs x s)
 value_map f xs x (Kept s) = get_or-map f xs s.0 x
 value_map f xs x Taken = refl
 
 pub carry_map : {A B : Type 0} (f : A → B) (xs : List A) (x : A) (ss : List Source) → carry (map f xs) (f x) ss ≡ map f (carry xs x ss)
-carry_map f xs x ss = map_same _ _ ss (value_map f xs x) ∙ sym (map_map _ f ss)
+carry_map f xs x ss = map_same_in _ _ ss (λ s i. value_map f xs x s) ∙ sym (map-map f _ ss)
 
 pub in_value : {A : Type 0} (xs : List A) (x : A) (s : Source) → In (value_of xs x s) (x ∷ xs)
 in_value xs x (Kept s) = in_get_or xs s.0 x

@@ -1,7 +1,6 @@
 -- Tests as facts.
-use Rattle.std.proofs.Common.{◌≡◌, ℕ, Bool, true, false, not, ◌&&◌, ◌||◌, T, eqb, ◌⊎◌, List, [], ◌∷◌, sym, refl, subst, inl, inr, eqb→eq}
-use mathlib.Core.Bool.{beq}
-use lib.Dec.{eqb_refl}
+use Rattle.std.proofs.Common.{◌≡◌, Bool, true, false, not, ◌&&◌, ◌||◌, T, ◌⊎◌, List, [], ◌∷◌, sym, refl, subst, inl, inr}
+use Rattle.std.specs.Bool.{passes, one_answer}
 use Rattle.lists.specs.Every.{every, any}
 use Rattle.programs.specs.Places.{In}
 
@@ -12,19 +11,6 @@ and_both false b t = absurd t
 pub and_make : (a b : Bool) → T a → T b → T (a && b)
 and_make true b s t = t
 and_make false b s t = absurd s
-
-pub beq_eq : (a b : Bool) → T (beq a b) → a ≡ b
-beq_eq true true t = refl
-beq_eq true false t = absurd t
-beq_eq false true t = absurd t
-beq_eq false false t = refl
-
-pub beq_refl : (a : Bool) → T (beq a a)
-beq_refl true = tt
-beq_refl false = tt
-
-pub eq_eqb : (m n : ℕ) → m ≡ n → T (eqb m n)
-eq_eqb m n e = subst (λ (k : ℕ). T (eqb m k)) e (eqb_refl m)
 
 pub of_all : {A : Type 0} (t : A → Bool) (xs : List A) → T (every t xs) → (x : A) → In x xs → T (t x)
 of_all t [] h x i = absurd i
@@ -73,16 +59,6 @@ pub yes : (b : Bool) → T b → b ≡ true
 yes true t = refl
 yes false t = absurd t
 
-pub no : (b : Bool) → (T b → ⊥) → b ≡ false
-no true f = absurd (f tt)
-no false f = refl
-
-pub eqb_false : (m n : ℕ) → (m ≡ n → ⊥) → eqb m n ≡ false
-eqb_false m n h = no (eqb m n) (λ t. h (eqb→eq m n t))
-
 -- two tests that follow from one another
 pub same_test : (a b : Bool) → (T a → T b) → (T b → T a) → a ≡ b
-same_test true true f g = refl
-same_test true false f g = absurd (f tt)
-same_test false true f g = absurd (g tt)
-same_test false false f g = refl
+same_test a b f g = one_answer a b ((λ e. f (passes a e)), (λ t. yes a (g t))) (passes b, yes b)

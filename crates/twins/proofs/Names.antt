@@ -1,12 +1,13 @@
 -- A name stands for values that mean the same, and for no others.
 use Rattle.std.proofs.Common.{◌≡◌, ℕ, suc, ◌<◌, Bool, true, false, cond, not, ◌||◌, T, eqb, List, [], ◌∷◌, length, sym, refl, ◌∙◌, subst, inl, inr, arith, eqb→eq}
 use lib.Dec.{eqb_refl}
+use Rattle.std.proofs.Math.Facts.{yes_eqb}
 use Rattle.lists.specs.Every.{any}
 use Rattle.programs.specs.Places.{In}
 use Rattle.twins.specs.Naming.{firsts, index, name}
 use Rattle.twins.specs.Twins.{Equivalence}
 use Rattle.twins.proofs.Lists.{in_kept}
-use Rattle.twins.proofs.Logic.{eq_eqb, of_any, to_any, same_test}
+use Rattle.twins.proofs.Logic.{of_any, to_any, same_test}
 
 module _ {A : Type 0} (e : A → A → Bool) (eqv : Equivalence e) where
   -- values that mean the same have one index
@@ -50,7 +51,7 @@ module _ {A : Type 0} (e : A → A → Bool) (eqv : Equivalence e) where
   -- the test agrees at the names
   pub name_test : (xs : List A) (x y : A) → In x xs → In y xs → e x y ≡ eqb (name e xs x) (name e xs y)
   name_test xs x y i j =
-      same_test (e x y) (eqb (name e xs x) (name e xs y)) (λ t. eq_eqb _ _ (index_alike x y t (firsts e xs)))
+      same_test (e x y) (eqb (name e xs x) (name e xs y)) (λ t. yes_eqb (index_alike x y t (firsts e xs)))
       (λ t. index_one x y (firsts e xs) (in_firsts x xs i) (in_firsts y xs j) (eqb→eq _ _ t))
 
 -- numbers mean themselves
@@ -58,9 +59,9 @@ pub numbers : Equivalence eqb
 numbers =
     record {
       itself = eqb_refl;
-      back = λ m n t. eq_eqb n m (sym (eqb→eq m n t));
-      through = λ k m n s t. eq_eqb k n (eqb→eq k m s ∙ eqb→eq m n t);
+      back = λ m n t. yes_eqb (sym (eqb→eq m n t));
+      through = λ k m n s t. yes_eqb (eqb→eq k m s ∙ eqb→eq m n t);
     }
 
 pub name_one : (ns : List ℕ) (n m : ℕ) → In n ns → In m ns → name eqb ns n ≡ name eqb ns m → n ≡ m
-name_one ns n m i j q = eqb→eq n m (subst T (sym (name_test eqb numbers ns n m i j)) (eq_eqb _ _ q))
+name_one ns n m i j q = eqb→eq n m (subst T (sym (name_test eqb numbers ns n m i j)) (yes_eqb q))

@@ -1,9 +1,13 @@
 -- The laws of normal naming.
 use Rattle.std.proofs.Common.{◌≡◌, ℕ, suc, ◌≤◌, Bool, true, false, cond, not, ◌||◌, eqb, List, [], ◌∷◌, ◌++◌, map, length, filter, sym, refl, ap, ◌∙◌, inl, inr, arith}
+use Rattle.std.proofs.lemmas.List.{map-append}
+use Rattle.std.proofs.lemmas.List.Elements.{filter-append}
+use Rattle.std.proofs.lemmas.List.Sums.{length-filter, count_by-le-length}
+use Rattle.std.proofs.lemmas.Simd.{map-map}
 use Rattle.lists.specs.Every.{any}
 use Rattle.programs.proofs.Members.{map_same_in}
 use Rattle.programs.specs.Places.{In}
-use Rattle.twins.proofs.Lists.{in_left, in_right, map_map, map_append, of_kept}
+use Rattle.twins.proofs.Lists.{in_left, in_right, of_kept}
 use Rattle.twins.proofs.Names.{index_below, in_firsts, name_test, numbers}
 use Rattle.twins.specs.Naming.{firsts, index, name}
 use Rattle.twins.specs.NamingLaws.{PatternNames, NormalAgain, NamesSmall}
@@ -68,7 +72,7 @@ name_again e eqv xs x i =
 pub names_again : {A : Type 0} (e : A → A → Bool) → Equivalence e → (xs : List A) →
     map (name eqb (map (name e xs) xs)) (map (name e xs) xs) ≡ map (name e xs) xs
 names_again e eqv xs =
-    map_map (name e xs) (name eqb (map (name e xs) xs)) xs ∙ map_same_in _ _ xs (λ x i. name_again e eqv xs x i)
+    map-map (name eqb (map (name e xs) xs)) (name e xs) xs ∙ map_same_in _ _ xs (λ x i. name_again e eqv xs x i)
 
 pub normal_again : NormalAgain
 normal_again A e eqv i j xs ys = λ k. record { left = i; right = j; lefts = part xs (λ x a. in_left x xs ys a) k; rights = part ys (λ y a. in_right y xs ys a) k }
@@ -78,35 +82,18 @@ normal_again A e eqv i j xs ys = λ k. record { left = i; right = j; lefts = par
 
     part : (zs : List A) → ((z : A) → In z zs → In z (xs ++ ys)) → map (name eqb (map f xs ++ map f ys)) (map f zs) ≡ map f zs
     part zs sub =
-        ap (λ (l : List ℕ). map (name eqb l) (map f zs)) (sym (map_append f xs ys))
-        ∙ map_map f (name eqb (map f (xs ++ ys))) zs
+        ap (λ (l : List ℕ). map (name eqb l) (map f zs)) (sym (map-append f xs ys))
+        ∙ map-map (name eqb (map f (xs ++ ys))) f zs
         ∙ map_same_in _ f zs (λ z a. name_again e eqv (xs ++ ys) z (sub z a))
-
-pub length_kept : {A : Type 0} (t : A → Bool) (xs : List A) → length (filter t xs) ≤ length xs
-length_kept t [] = omega arith
-length_kept t (x ∷ xs) = go (t x) (length_kept t xs)
-  where
-    go : (b : Bool) → length (filter t xs) ≤ length xs → length (cond b (x ∷ filter t xs) (filter t xs)) ≤ suc (length xs)
-    go true h = omega arith
-    go false h = omega arith
 
 pub length_firsts : {A : Type 0} (e : A → A → Bool) (xs : List A) → length (firsts e xs) ≤ length xs
 length_firsts e [] = omega arith
 length_firsts e (x ∷ xs) =
-    let a = length_kept (λ y. not (e x y)) (firsts e xs) in let b = length_firsts e xs in omega arith
+    omega (arith, length-filter (λ y. not (e x y)) (firsts e xs), count_by-le-length (λ y. not (e x y)) (firsts e xs), length_firsts e xs)
 
 pub names_small : NamesSmall
 names_small xs x i =
     let a = index_below eqb numbers x (firsts eqb xs) (in_firsts eqb numbers x xs i) in let b = length_firsts eqb xs in omega arith
-
-pub kept_append : {A : Type 0} (t : A → Bool) (xs ys : List A) → filter t (xs ++ ys) ≡ filter t xs ++ filter t ys
-kept_append t [] ys = refl
-kept_append {A} t (x ∷ xs) ys = go (t x) (kept_append t xs ys)
-  where
-    go : (b : Bool) → filter t (xs ++ ys) ≡ filter t xs ++ filter t ys →
-        cond b (x ∷ filter t (xs ++ ys)) (filter t (xs ++ ys)) ≡ cond b (x ∷ filter t xs) (filter t xs) ++ filter t ys
-    go true e = ap (λ (l : List A). x ∷ l) e
-    go false e = e
 
 -- one more value is a new one, or it was met
 pub firsts_push : {A : Type 0} (e : A → A → Bool) (xs : List A) (y : A) →
@@ -115,7 +102,7 @@ firsts_push e [] y = refl
 firsts_push {A} e (x ∷ xs) y =
     ap (λ (l : List A). x ∷ l)
     (ap (filter (λ z. not (e x z))) (firsts_push e xs y)
-    ∙ kept_append (λ z. not (e x z)) (firsts e xs) (cond (any (λ z. e z y) xs) [] (y ∷ []))
+    ∙ filter-append (λ z. not (e x z)) (firsts e xs) (cond (any (λ z. e z y) xs) [] (y ∷ []))
     ∙ ap (λ (l : List A). filter (λ z. not (e x z)) (firsts e xs) ++ l) (go (any (λ z. e z y) xs) (e x y) refl))
   where
     go : (b c : Bool) → e x y ≡ c → filter (λ z. not (e x z)) (cond b [] (y ∷ [])) ≡ cond (c || b) [] (y ∷ [])

@@ -2,7 +2,9 @@
 use Rattle.std.proofs.Common.{◌≡◌, ℕ, Bool, T, eqb, List, ◌∷◌, ◌++◌, map, sym, refl, ap, ◌∙◌, subst, inl, inr, ⊎_elim}
 use Rattle.pages.specs.Model.{LineModel}
 use Rattle.programs.specs.Places.{In, after, carry, moved}
-use Rattle.twins.proofs.Lists.{in_left, in_right, in_either, in_map, of_map, map_map, map_append, carry_map, in_carry}
+use Rattle.std.proofs.lemmas.List.{map-append}
+use Rattle.std.proofs.lemmas.Simd.{map-map}
+use Rattle.twins.proofs.Lists.{in_left, in_right, in_either, in_map, of_map, carry_map, in_carry}
 use Rattle.twins.proofs.Names.{name_one}
 use Rattle.twins.specs.Naming.{name}
 use Rattle.twins.specs.Pairs.{Pair, after_both, fresh}
@@ -58,13 +60,13 @@ module _ {V : Type 0} (Good : List (V × ℕ) → Type 0) (steady : Steady Good)
         rs = map (rename f) cr;
         left = refl;
         right = refl;
-        left_names = ap (map f) eA ∙ map_map named f cl ∙ sym (map_map (rename f) named cl);
-        right_names = ap (map f) eB ∙ map_map named f cr ∙ sym (map_map (rename f) named cr);
+        left_names = ap (map f) eA ∙ map-map f named cl ∙ sym (map-map named (rename f) cl);
+        right_names = ap (map f) eB ∙ map-map f named cr ∙ sym (map-map named (rename f) cr);
         left_values =
-            ap (λ (s : List V). carry s y.0 l.sources) i.left_values ∙ carry_map value i.ls y l.sources ∙ sym (map_map (rename f) value cl);
+            ap (λ (s : List V). carry s y.0 l.sources) i.left_values ∙ carry_map value i.ls y l.sources ∙ sym (map-map value (rename f) cl);
         right_values =
-            ap (λ (s : List V). carry s z.0 m.sources) i.right_values ∙ carry_map value i.rs z m.sources ∙ sym (map_map (rename f) value cr);
-        good = subst Good (map_append (rename f) cl cr) (steady.renamed (cl ++ cr) f one (steady.part _ (cl ++ cr) among g));
+            ap (λ (s : List V). carry s z.0 m.sources) i.right_values ∙ carry_map value i.rs z m.sources ∙ sym (map-map value (rename f) cr);
+        good = subst Good (map-append (rename f) cl cr) (steady.renamed (cl ++ cr) f one (steady.part _ (cl ++ cr) among g));
       }
     where
       cl : List (V × ℕ)
@@ -89,7 +91,7 @@ module _ {V : Type 0} (Good : List (V × ℕ) → Type 0) (steady : Steady Good)
       eB = (λ k. carry (i.right_names k) (ez k) m.sources) ∙ carry_map named i.rs z m.sources
 
       eAB : map named (cl ++ cr) ≡ A ++ B
-      eAB = map_append named cl cr ∙ sym (λ k. eA k ++ eB k)
+      eAB = map-append named cl cr ∙ sym (λ k. eA k ++ eB k)
 
       one : (a b : ℕ) → In a (map named (cl ++ cr)) → In b (map named (cl ++ cr)) → f a ≡ f b → a ≡ b
       one a b ia ib e = name_one (A ++ B) a b (subst (In a) eAB ia) (subst (In b) eAB ib) e

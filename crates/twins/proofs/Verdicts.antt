@@ -1,6 +1,8 @@
 -- What the verdicts mean, from what one step of both places does.
-use Rattle.std.proofs.Common.{◌≡◌, ℕ, Bool, not, ◌||◌, T, eqb, List, [], ◌∷◌, ◌++◌, map, length, sym, refl, ap, ◌∙◌, subst, arith, eqb→eq}
+use Rattle.std.proofs.Common.{◌≡◌, ℕ, Bool, not, ◌||◌, T, eqb, List, [], ◌∷◌, ◌++◌, map, length, sym, refl, ap, ◌∙◌, subst, eqb→eq}
 use lib.ListN.{length-map}
+use Rattle.std.proofs.Math.Facts.{yes_eqb}
+use Rattle.std.proofs.lemmas.Slice.Zip.{firsts-zip, seconds-zip}
 use Rattle.games.specs.declared.Side.TheVariants.{Left, Right}
 use Rattle.lists.specs.Every.{every, any}
 use Rattle.pages.specs.Model.{PageModel}
@@ -8,7 +10,7 @@ use Rattle.programs.specs.Places.{In, Place}
 use Rattle.twins.proofs.Follows.{places_follow}
 use Rattle.twins.proofs.Forces.{pairs_follow}
 use Rattle.twins.proofs.Games.{wins_unheld, follows_survives, follows_wins, follows_held}
-use Rattle.twins.proofs.Logic.{and_both, and_make, eq_eqb, of_all, to_all, of_any, to_any, implies, implied}
+use Rattle.twins.proofs.Logic.{and_both, and_make, of_all, to_all, of_any, to_any, implies, implied}
 use Rattle.twins.proofs.Steps.{value, named}
 use Rattle.twins.specs.Games.{Held}
 use Rattle.twins.specs.Pairs.{Pair, Rule, asks, Match, both, left_only}
@@ -16,17 +18,6 @@ use Rattle.twins.specs.Twins.{Places, Instance, Stands, Sharp, PlaceMatch, Equiv
 use Rattle.twins.specs.Verdicts.{Answers, HeldRelates, SurvivesEverywhere, WinsEverywhere, WinsUnrelates}
 
 module _ {V : Type 0} where
-  pub beside_values : (vs : List V) (ns : List ℕ) → length ns ≡ length vs → vs ≡ map value (beside vs ns)
-  beside_values [] ns e = refl
-  beside_values (v ∷ vs) [] e = absurd (omega (arith, e))
-  beside_values (v ∷ vs) (n ∷ ns) e = ap (λ (l : List V). v ∷ l) (beside_values vs ns (omega (arith, e)))
-
-  pub beside_names : (vs : List V) (ns : List ℕ) → length ns ≡ length vs → ns ≡ map named (beside vs ns)
-  beside_names [] [] e = refl
-  beside_names [] (n ∷ ns) e = absurd (omega (arith, e))
-  beside_names (v ∷ vs) [] e = absurd (omega (arith, e))
-  beside_names (v ∷ vs) (n ∷ ns) e = ap (λ (l : List ℕ). n ∷ l) (beside_names vs ns (omega (arith, e)))
-
   pub beside_maps : (zs : List (V × ℕ)) → zs ≡ beside (map value zs) (map named zs)
   beside_maps [] = refl
   beside_maps (z ∷ zs) = ap (λ (l : List (V × ℕ)). z ∷ l) (beside_maps zs)
@@ -35,7 +26,7 @@ module _ {V : Type 0} (same : V → V → Bool) where
   pub of_agree : (zs : List (V × ℕ)) → T (agree same zs) → Stands same zs
   of_agree zs h y z i j e =
       implies _ _ (of_all (λ (u : V × ℕ). not (eqb y.1 u.1) || same y.0 u.0) zs
-      (of_all (λ (x : V × ℕ). every (λ (u : V × ℕ). not (eqb x.1 u.1) || same x.0 u.0) zs) zs h y i) z j) (eq_eqb _ _ e)
+      (of_all (λ (x : V × ℕ). every (λ (u : V × ℕ). not (eqb x.1 u.1) || same x.0 u.0) zs) zs h y i) z j) (yes_eqb e)
 
   pub to_agree : (zs : List (V × ℕ)) → Stands same zs → T (agree same zs)
   to_agree zs g =
@@ -56,18 +47,18 @@ module _ {V : Type 0} (same : V → V → Bool) where
         rs = beside w.rights.slots p.rights;
         left = eqb→eq _ _ a;
         right = eqb→eq _ _ b;
-        left_names = beside_names w.lefts.slots p.lefts ec;
-        right_names = beside_names w.rights.slots p.rights ed;
-        left_values = beside_values w.lefts.slots p.lefts ec;
-        right_values = beside_values w.rights.slots p.rights ed;
+        left_names = sym (seconds-zip w.lefts.slots p.lefts ec);
+        right_names = sym (seconds-zip w.rights.slots p.rights ed);
+        left_values = sym (firsts-zip w.lefts.slots p.lefts ec);
+        right_values = sym (firsts-zip w.rights.slots p.rights ed);
         good = of_agree _ h4;
       }
 
   pub to_describes : (p : Pair) (w : Places V) → Instance (Stands same) p w → T (describes same p w.lefts w.rights)
   to_describes p w i =
-      and_make _ _ (eq_eqb _ _ i.left) (and_make _ _ (eq_eqb _ _ i.right)
-      (and_make _ _ (eq_eqb _ _ (ap length i.left_names ∙ length-map i.ls named ∙ sym (ap length i.left_values ∙ length-map i.ls value)))
-      (and_make _ _ (eq_eqb _ _ (ap length i.right_names ∙ length-map i.rs named ∙ sym (ap length i.right_values ∙ length-map i.rs value)))
+      and_make _ _ (yes_eqb i.left) (and_make _ _ (yes_eqb i.right)
+      (and_make _ _ (yes_eqb (ap length i.left_names ∙ length-map i.ls named ∙ sym (ap length i.left_values ∙ length-map i.ls value)))
+      (and_make _ _ (yes_eqb (ap length i.right_names ∙ length-map i.rs named ∙ sym (ap length i.right_values ∙ length-map i.rs value)))
       (subst (λ (zs : List (V × ℕ)). T (agree same zs)) here (to_agree (i.ls ++ i.rs) i.good)))))
     where
       here : i.ls ++ i.rs ≡ beside w.lefts.slots p.lefts ++ beside w.rights.slots p.rights

@@ -1,5 +1,6 @@
 -- Pairs as numbers: left screen, right screen, then four digits in base 16 for the names of each side, 15 where a slot is unused.
-use Rattle.std.specs.Prelude.{◌≡◌, ℕ, ◌+◌, ◌*◌, ◌/◌, ◌%◌, ◌^◌, ◌<◌, ◌≤◌, Bool, true, false, cond, not, ◌&&◌, T, List, [], ◌∷◌, map, length, filter, ◌==◌, nat_eq, nat_lt, slice_index_or}
+use Rattle.std.specs.Prelude.{◌≡◌, ℕ, ◌+◌, ◌*◌, ◌/◌, ◌%◌, ◌^◌, ◌<◌, ◌≤◌, Bool, cond, not, ◌&&◌, T, List, [], ◌∷◌, map, length, filter, ◌==◌, nat_eq, nat_lt, slice_index_or}
+use Rattle.std.specs.Cmp.Lexicographic.{pointwise}
 use Rattle.pages.specs.Model.{PageModel}
 use Rattle.programs.specs.Places.{In}
 use Rattle.games.specs.Meaning.{Challenge, Challenges}
@@ -35,10 +36,7 @@ abbrev pub Decodes : Type 0
 Decodes = (p : Pair) → Small p → pair_of (code p) ≡ p
 
 abbrev pub same_list : List ℕ → List ℕ → Bool
-same_list [] [] = true
-same_list [] (n ∷ ns) = false
-same_list (m ∷ ms) [] = false
-same_list (m ∷ ms) (n ∷ ns) = m == n && same_list ms ns
+same_list = pointwise nat_eq
 
 -- a pair of screens of the pages, with a name for each slot, in normal naming
 abbrev pub usable : PageModel → PageModel → Pair → Bool

@@ -1,5 +1,6 @@
 -- The game of two pages at places, with real values, and what it has to do with pairs.
 use Rattle.std.specs.Prelude.{◌≡◌, ℕ, Bool, not, ◌&&◌, ◌||◌, T, List, [], ◌∷◌, ◌++◌, map, length, ◌==◌}
+use Rattle.std.specs.List.{zip}
 use Rattle.lists.specs.Every.{every}
 use Rattle.pages.specs.Model.{PageModel}
 use Rattle.programs.specs.Places.{In, Place, Act, Moves}
@@ -77,9 +78,7 @@ pub record Sharp {V : Type 0} (same : V → V → Bool) (g h : PageModel) (p : P
 
 -- values beside their names
 abbrev pub beside : {V : Type 0} → List V → List ℕ → List (V × ℕ)
-beside [] ns = []
-beside (v ∷ vs) [] = []
-beside (v ∷ vs) (n ∷ ns) = (v, n) ∷ beside vs ns
+beside = zip
 
 -- slots with equal names hold values that mean the same
 abbrev pub agree : {V : Type 0} → (V → V → Bool) → List (V × ℕ) → Bool
