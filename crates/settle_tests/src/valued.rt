@@ -135,7 +135,7 @@ fn told_readings(rt: HostRuntime) {
         (256, 4, true, [0, 0, 1, 0, 9, 9]),
     ];
     for (number, room, fits, bytes) in table {
-        assert_eq!(rt; Reading(number).number(), number as u64);
+        assert_eq!(rt; Reading(number).number(), u64::from(number));
         check_told(
             &rt,
             &Reading(number),
