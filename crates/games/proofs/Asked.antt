@@ -5,11 +5,11 @@ use Rattle.std.proofs.lemmas.List.Folds.{list_all-map}
 use Rattle.lists.specs.Every.{every, any}
 
 module _ {A B : Type 0} (p : B → Bool) (h : A → B) where
-  any_map : (xs : List A) → any p (map h xs) ≡ any (λ x. p (h x)) xs
+  pub any_map : (xs : List A) → any p (map h xs) ≡ any (λ x. p (h x)) xs
   any_map [] = refl
   any_map (x ∷ xs) = ap (λ b. p (h x) || b) (any_map xs)
 
-  filter_map : (xs : List A) → filter p (map h xs) ≡ map h (filter (λ x. p (h x)) xs)
+  pub filter_map : (xs : List A) → filter p (map h xs) ≡ map h (filter (λ x. p (h x)) xs)
   filter_map [] = refl
   filter_map (x ∷ xs) = ap (λ l. cond (p (h x)) (h x ∷ l) l) (filter_map xs) ∙ taken (p (h x)) _
     where

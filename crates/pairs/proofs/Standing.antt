@@ -4,6 +4,8 @@ use Rattle.std.specs.Bool.{then_some}
 use Rattle.std.specs.Cmp.Lexicographic.{bytes_decides}
 use Rattle.std.specs.Option.{option_map}
 use Rattle.std.proofs.lemmas.Bool.{and_from, and_parts, cond-true, cond-false, eq-eqb, eqb-true, eqb-false, false_from_ne_true, lt-ltb}
+use Rattle.std.proofs.lemmas.List.{length-map}
+use Rattle.lists.proofs.Extends.{held_few}
 use Rattle.programs.specs.Places.{In}
 use Rattle.twins.specs.Naming.{name}
 use Rattle.twins.specs.Pairs.{Pair, normal}
@@ -12,7 +14,7 @@ use Rattle.twins.proofs.Lists.{in_left, in_right, of_map}
 use Rattle.twins.proofs.Naming.{names_small}
 use Rattle.twins.proofs.Codes.{decodes}
 use Rattle.pairs.specs.Order.{InOrder, pair_of_values}
-use Rattle.pairs.specs.Stored.{pair_model, sides_few}
+use Rattle.pairs.specs.Stored.{pair_model}
 use Rattle.pairs.specs.Decoding.{in_order, stands, decoded}
 use Rattle.pairs.specs.declared.Pair as stored
 use Rattle.pairs.proofs.Formed.{model, of_values}
@@ -39,6 +41,10 @@ order_small : (ns : List ℕ) → InOrder ns → (n : ℕ) → In n ns → n < l
 order_small ns e n i =
     let (x, j, p) = of_map (name eqb ns) n ns (subst (In n) (sym e) i) in
     omega (arith, p, names_small ns x j)
+
+-- each side has at most four names, as its type has room for no more
+sides_few : (p : stored.Pair) → (length (pair_model p).lefts ≤ 4) × (length (pair_model p).rights ≤ 4)
+sides_few p = (simp length-map (held_few p.lefts), simp length-map (held_few p.rights))
 
 -- stored pairs
 module _ (p : stored.Pair) where

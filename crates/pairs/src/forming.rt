@@ -42,14 +42,16 @@ impl Pair {
 
     // The names of the left slots.
     pub fn lefts(&self) -> &[Name]
-        ensures { map number result.now ≡ (pair_model self.now).lefts }
+        ensures is { map number result.now ≡ (pair_model self.now).lefts }
+        ensures few { length result.now ≤ 4 }
     {
         self.lefts.as_slice()
     }
 
     // The names of the right slots.
     pub fn rights(&self) -> &[Name]
-        ensures { map number result.now ≡ (pair_model self.now).rights }
+        ensures is { map number result.now ≡ (pair_model self.now).rights }
+        ensures few { length result.now ≤ 4 }
     {
         self.rights.as_slice()
     }

@@ -1,6 +1,7 @@
 -- Counts, and what a challenger can do.
 use Rattle.std.proofs.Common.{◌≡◌, ℕ, zero, suc, ◌+◌, ◌<◌, Bool, true, false, not, ◌&&◌, ◌||◌, T, List, [], ◌∷◌, map, sym, refl, ap, ◌∙◌, subst, inl, inr, ⊎_elim, arith, T_not}
 use lib.Dec.{not_T}
+use Rattle.games.proofs.Asked.{any_map}
 use Rattle.games.specs.Counts.{forces, within, has_count}
 use Rattle.games.specs.Meaning.{Challenge, Challenges}
 use Rattle.std.proofs.lemmas.List.Folds.{list_all-map}
@@ -100,10 +101,6 @@ module _ {X : Type 0} (M : Challenges X) where
       (not_any (λ (d : Challenge X). every (within M n) d.replies) (M x) (nor (within M n x) (forces M (within M n) x) h).1 c.0 c.1) in
       (y, i, (closed x s.0 c.0 c.1 y i, r))
 
-pub any_map : {A B : Type 0} (f : A → B) (t : B → Bool) (xs : List A) → any t (map f xs) ≡ any (λ x. t (f x)) xs
-any_map f t [] = refl
-any_map f t (x ∷ xs) = ap (λ (b : Bool). t (f x) || b) (any_map f t xs)
-
 pub any_same : {A : Type 0} (t u : A → Bool) (xs : List A) → ((x : A) → In x xs → t x ≡ u x) → any t xs ≡ any u xs
 any_same t u [] h = refl
 any_same t u (x ∷ xs) h = λ i. h x (inl refl) i || any_same t u xs (λ y j. h y (inr j)) i
@@ -119,7 +116,7 @@ module _ {X Y : Type 0} (M : Challenges X) (N : Challenges Y) (f : X → Y) (P :
   forced_recoded : (t : Y → Bool) (u : X → Bool) → ((x : X) → P x → t (f x) ≡ u x) → (x : X) → P x → forces N t (f x) ≡ forces M u x
   forced_recoded t u h x p =
       ap (any (λ (c : Challenge Y). every t c.replies)) (same x p)
-      ∙ any_map (recoded f) (λ (c : Challenge Y). every t c.replies) (M x)
+      ∙ any_map (λ (c : Challenge Y). every t c.replies) (recoded f) (M x)
       ∙ any_same _ _ (M x) (λ c i. list_all-map t f c.replies ∙ all_same _ _ c.replies (λ y j. h y (closed x p c i y j)))
 
   pub counted_recoded : (n : ℕ) (x : X) → P x → within N n (f x) ≡ within M n x

@@ -5,6 +5,7 @@ use Rattle.std.proofs.lemmas.List.Elements.{filter-append}
 use Rattle.std.proofs.lemmas.List.Sums.{length-filter, count_by-le-length}
 use Rattle.std.proofs.lemmas.Simd.{map-map}
 use Rattle.lists.specs.Every.{any}
+use Rattle.games.proofs.Asked.{filter_map}
 use Rattle.programs.proofs.Members.{map_same_in}
 use Rattle.programs.specs.Places.{In}
 use Rattle.twins.proofs.Lists.{in_left, in_right, of_kept}
@@ -13,15 +14,6 @@ use Rattle.twins.specs.Naming.{firsts, index, name}
 use Rattle.twins.specs.NamingLaws.{PatternNames, NormalAgain, NamesSmall}
 use Rattle.twins.specs.Twins.{Equivalence}
 
-pub kept_map : {A B : Type 0} (f : A → B) (t : B → Bool) (xs : List A) → filter t (map f xs) ≡ map f (filter (λ x. t (f x)) xs)
-kept_map f t [] = refl
-kept_map {A} {B} f t (x ∷ xs) = go (t (f x)) (kept_map f t xs)
-  where
-    go : (b : Bool) → filter t (map f xs) ≡ map f (filter (λ x. t (f x)) xs) →
-        cond b (f x ∷ filter t (map f xs)) (filter t (map f xs)) ≡ map f (cond b (x ∷ filter (λ x. t (f x)) xs) (filter (λ x. t (f x)) xs))
-    go true e = ap (λ (l : List B). f x ∷ l) e
-    go false e = e
-
 pub kept_agree : {A : Type 0} (t u : A → Bool) (xs : List A) → ((x : A) → In x xs → t x ≡ u x) → filter t xs ≡ filter u xs
 kept_agree t u [] h = refl
 kept_agree t u (x ∷ xs) h = λ i. cond (h x (inl refl) i) (x ∷ kept_agree t u xs (λ y j. h y (inr j)) i) (kept_agree t u xs (λ y j. h y (inr j)) i)
@@ -29,7 +21,7 @@ kept_agree t u (x ∷ xs) h = λ i. cond (h x (inl refl) i) (x ∷ kept_agree t 
 pub firsts_map : {A B : Type 0} (f : A → B) (e : B → B → Bool) (xs : List A) → firsts e (map f xs) ≡ map f (firsts (λ x y. e (f x) (f y)) xs)
 firsts_map f e [] = refl
 firsts_map {A} {B} f e (x ∷ xs) =
-    ap (λ (l : List B). f x ∷ l) (ap (filter (λ y. not (e (f x) y))) (firsts_map f e xs) ∙ kept_map f (λ y. not (e (f x) y)) (firsts (λ x y. e (f x) (f y)) xs))
+    ap (λ (l : List B). f x ∷ l) (ap (filter (λ y. not (e (f x) y))) (firsts_map f e xs) ∙ filter_map (λ y. not (e (f x) y)) f (firsts (λ x y. e (f x) (f y)) xs))
 
 pub of_firsts : {A : Type 0} (e : A → A → Bool) (x : A) (xs : List A) → In x (firsts e xs) → In x xs
 of_firsts e x [] i = i
