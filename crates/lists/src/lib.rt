@@ -1,4 +1,4 @@
-// Lists without a heap.
+// Lists without a heap, and one question put to each item of a list.
 #![tactic(auto)]
 
 ghost use Rattle.std.specs.Prelude.{◌≡◌, ◌≤◌, ⊤, length};
@@ -6,6 +6,7 @@ ghost use Rattle.std.specs.Prelude.{◌≡◌, ◌≤◌, ⊤, length};
 use std::alloc::AllocError;
 
 pub mod ops;
+pub mod predicate;
 
 // A vector that holds as many items as it can takes no more.
 #[derive(Clone, Copy, Debug, PartialEq, Eq)]
