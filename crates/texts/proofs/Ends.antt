@@ -1,7 +1,9 @@
 -- What the end of a text's first line says of its lines.
-use Rattle.std.proofs.Common.{◌≡◌, ℕ, suc, ◌+◌, ◌<◌, Bool, true, false, cond, eqb, List, [], ◌∷◌, length, take, drop, IfSome, Some, None, Option, sym, refl, ap, subst, add-one, arith}
+use Rattle.std.proofs.Common.{◌≡◌, ℕ, zero, suc, ◌+◌, ◌-◌, ◌<◌, ◌≤◌, Bool, true, false, cond, eqb, List, [], ◌∷◌, length, take, drop, IfSome, Some, None, Option, sym, refl, ap, subst, add-one, arith, ◌∙◌}
+use Rattle.std.specs.List.{slice_get}
 use Rattle.std.specs.Option.{option_map}
-use Rattle.texts.specs.Lines.{last, ended, longer, lines_of, ended_at}
+use Rattle.std.proofs.lemmas.List.{take_rest}
+use Rattle.texts.specs.Lines.{Lines, last, ended, longer, lines_of, pieces, line_at, ended_at}
 
 -- a text's lines, by where its first line ends
 abbrev pub Split : List ℕ → Option ℕ → Type 0
@@ -32,3 +34,30 @@ unsplit t e = subst (Split t) (sym e) (split t)
 pub end_within : (t : List ℕ) (o : Option ℕ) → o ≡ ended_at t → IfSome o (λ n. n < length t)
 end_within t None e = tt
 end_within t (Some n) e = (subst (Split t) (sym e) (split t)).1
+
+-- the lines without their 0A, by where the first one ends
+pub pieces_cut : (t : List ℕ) (n : ℕ) → Some n ≡ ended_at t → pieces (lines_of t) ≡ take n t ∷ pieces (lines_of (take (length t - (n + 1)) (drop (n + 1) t)))
+pieces_cut t n e = ap pieces (split_at t n e) ∙ ap (λ l. take n t ∷ pieces (lines_of l)) (sym (take_rest t (n + 1)))
+
+pub pieces_last : (t : List ℕ) → None ≡ ended_at t → 0 < length t → pieces (lines_of t) ≡ t ∷ []
+pieces_last [] e h = absurd (omega arith)
+pieces_last (b ∷ t) e h = ap pieces (unsplit (b ∷ t) e)
+
+-- there is no line without a byte
+longer_few : (b : ℕ) (ls : Lines) → length (pieces (longer b ls)) ≤ suc (length (pieces ls))
+longer_few b (last []) = omega arith
+longer_few b (last (c ∷ l)) = omega arith
+longer_few b (ended l ls) = omega arith
+
+few_more : (b : ℕ) (t : List ℕ) (e : Bool) → length (pieces (lines_of t)) ≤ length t → length (pieces (cond e (ended [] (lines_of t)) (longer b (lines_of t)))) ≤ length (b ∷ t)
+few_more b t true h = omega (arith, h)
+few_more b t false h = omega (arith, h, longer_few b (lines_of t))
+
+pub pieces_few : (t : List ℕ) → length (pieces (lines_of t)) ≤ length t
+pieces_few [] = omega arith
+pieces_few (b ∷ t) = few_more b t (eqb 10 b) (pieces_few t)
+
+-- numbers of lines count from 1
+pub line_from_one : (ls : Lines) (n k : ℕ) → (1 ≤ n) × (k ≡ n - 1) → slice_get (pieces ls) k ≡ line_at ls n
+line_from_one ls zero k h = absurd (omega arith)
+line_from_one ls (suc n) k h = let same : k ≡ n = omega arith in ap (slice_get (pieces ls)) same

@@ -1,5 +1,6 @@
 // Texts and their lines.
 ghost use Rattle.std.specs.Prelude.{◌≡◌, ℕ, ◌+◌, ◌<◌, ◌≤◌, length, drop, IfSome, IfOk};
+ghost use Rattle.std.specs.Iterator.{YieldsFirstRef, item_count};
 ghost use Rattle.std.specs.Option.{option_map as option_mapped};
 ghost use Rattle.lists.specs.Held.{held};
 ghost use Rattle.texts.specs.Answers.{mapped};
@@ -39,21 +40,44 @@ pub fn take_bytes(text: &[u8], at: usize) -> Result<(BoundedVec<u8, 16>, usize),
     Ok((bytes, n + 1))
 }
 
+// The lines of a text that are still to come, each without its 0A; a last piece of one byte or more is a line too. The
+// end of each is found by the one search.
+#[derive(Drop)]
+struct Pieces<'a>(&'a [u8]);
+
+impl<'a> Iterator for Pieces<'a> {
+    type Item = &'a [u8];
+
+    ghost next_gives = { YieldsFirstRef (λ s. pieces (lines_of s.0.now)) };
+
+    ghost remaining = { item_count (λ s. pieces (lines_of s.0.now)) };
+
+    fn next(&mut self) -> Option<&'a [u8]> {
+        let text = self.0;
+        if text.is_empty() {
+            return None;
+        }
+        let Some(n) = line_end(text) else {
+            self.0 = &[];
+            return Some(text);
+        };
+        self.0 = &text[n + 1..];
+        Some(&text[..n])
+    }
+}
+
 // How many lines a text has.
 pub fn count_lines(text: &[u8]) -> usize
     ensures { result ≡ length (pieces (lines_of text.now)) }
 {
-    text.split_inclusive(|b| *b == 0x0A).count()
+    Pieces(text).count()
 }
 
 // The line with this number, counted from 1.
 fn numbered(text: &[u8], number: usize) -> Option<&[u8]>
     ensures { option_mapped (λ l. l.now) result ≡ line_at (lines_of text.now) number }
 {
-    let line = text
-        .split_inclusive(|b| *b == 0x0A)
-        .nth(number.checked_sub(1)?)?;
-    Some(line.strip_suffix(&[0x0A]).unwrap_or(line))
+    Pieces(text).nth(number.checked_sub(1)?)
 }
 
 // Is the side 0 (left) or 1 (right)? It comes as a number, since a caller may ask for any, and question 10 refuses the rest.

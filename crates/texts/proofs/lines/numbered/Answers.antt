@@ -1,16 +1,11 @@
-use Rattle.std.proofs.Common.{Some, option_map, sym, ap, ◌∙◌, rules}
-use Rattle.std.proofs.lemmas.List.Sorted.{answers_always}
-use Rattle.texts.proofs.Cut.{line_at_nth, stripped, stripped_is}
+use Rattle.std.proofs.Common.{refl, ◌∙◌, arith}
+use Rattle.std.proofs.lemmas.Iterator.Consumers.{nth_from_yields_List, YieldsList-from_first}
+use Rattle.texts.specs.Lines.{lines_of, pieces}
+use Rattle.texts.proofs.Ends.{line_from_one}
 use Rattle.texts.proofs.lines.numbered.Goals as goal
-
-pub returns-in_err-line : goal.returns-in_err-line
-returns-in_err-line c =
-    ap (option_map (λ l. l.now)) c.from_residual-in_err-line.ensures
-    ∙ sym (ap (option_map (λ l. stripped l.now)) c.in_err-line.was)
-    ∙ line_at_nth _ c.args.text.now c.args.number _ _ _ c.split_inclusive.ensures.rest (answers_always _ _ _ (λ f a r q k. search rules)) c.in_ok-checked_sub.ensures c.nth.ensures.ran
 
 pub returns : goal.returns
 returns c =
-    ap (λ l. Some l.now) c.unwrap_or.ensures ∙ ap Some (stripped_is c.in_ok-line.line _ c.strip_suffix.ensures.cases)
-    ∙ sym (ap (option_map (λ l. stripped l.now)) c.in_ok-line.was)
-    ∙ line_at_nth _ c.args.text.now c.args.number _ _ _ c.split_inclusive.ensures.rest (answers_always _ _ _ (λ f a r q k. search rules)) c.in_ok-checked_sub.ensures c.nth.ensures.ran
+    let ls = lines_of c.args.text.now in
+    nth_from_yields_List c.nth.result c.nth.new.self _ c.nth.ensures.ran (YieldsList-from_first (λ l. l.now) (λ s. pieces (lines_of s.0.now)) (pieces ls) refl)
+    ∙ line_from_one ls c.args.number _ (omega arith, omega arith)
