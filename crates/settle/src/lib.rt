@@ -6,6 +6,7 @@ ghost use Rattle.games.specs.Drawn.{drawn};
 ghost use Rattle.games.specs.LeftOnly.{left_only};
 ghost use Rattle.settle.specs.Outcome.{settle_number, verdict_of, Outcome, Refutes};
 
+mod asking;
 mod listing;
 mod rounds;
 

@@ -3,6 +3,7 @@ ghost use Rattle.std.specs.Prelude.{◌≡◌, ◌<◌, ◌≤◌, [], ◌∷◌
 ghost use Rattle.games.specs.Listing.{with_new, listing};
 ghost use Rattle.settle.specs.Grown.{Grows};
 
+use crate::asking::replies_or;
 use games::Match;
 use values::search::position;
 
@@ -34,7 +35,7 @@ pub(crate) fn list_codes<M: Match>(game: &M, codes: &mut [u64]) -> Option<usize>
     while i < len {
         let code = codes[i];
         for n in 0..game.count(code) {
-            for k in 0..game.replies(code, n).unwrap_or(0) {
+            for k in 0..replies_or(game, code, n) {
                 let y = game.next(code, n, k).unwrap_or(0);
                 len = add(codes, len, y)?;
             }

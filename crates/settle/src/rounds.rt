@@ -6,6 +6,7 @@ ghost use Rattle.games.specs.Meaning.{replies_of};
 ghost use Rattle.games.specs.Counts.{forces};
 ghost use Rattle.settle.specs.Rounds.{count_beside, marked, RoundReady, RoundDone, AllClear, CountsAre};
 
+use crate::asking::replies_or;
 use games::Match;
 use values::search::position;
 
@@ -41,7 +42,7 @@ impl<M: Match> Board<'_, M> {
     fn all_marked(&self, code: u64, at: usize) -> bool
         ensures { result ≡ every (marked self.now.codes.now self.now.counts.now self.now.n) (replies_of (slice_get ((M.Match.meaning self.now.game.now).at code) at)) }
     {
-        let replies = self.game.replies(code, at).unwrap_or(0);
+        let replies = replies_or(self.game, code, at);
         (0..replies).all(|k| self.is_marked(self.game.next(code, at, k).unwrap_or(0)))
     }
 

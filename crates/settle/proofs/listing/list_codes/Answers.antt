@@ -4,7 +4,7 @@ use Rattle.games.specs.Listing.{with_new, listing}
 use Rattle.games.specs.Meaning.{replies_at, replies_of}
 use Rattle.settle.proofs.Growth.{reply_step, reply_full, challenge_step, challenge_full}
 use Rattle.settle.proofs.Lister.{list_start, list_step, list_full, list_end, list_done, list_over}
-use Rattle.settle.proofs.Replies.{number_told, reply_told}
+use Rattle.settle.proofs.Replies.{reply_told}
 use Rattle.settle.specs.Grown.{Grown, Grows}
 use Rattle.settle.proofs.listing.list_codes.Goals as goal
 
@@ -21,7 +21,7 @@ returns-in_err-len g c =
     let k = c.loop-k.k in
     let o = slice_get cs n in
     let inside : n < length cs = rw c.count-n-end.ensures at c.loop-n-test.true in
-    let number = number_told o c.replies.result c.unwrap_or-k-end.result c.replies.ensures c.unwrap_or-k-end.ensures in
+    let number = c.replies_or-k-end.ensures in
     let reply = reply_told o k c.next.result c.unwrap_or-y.result c.next.ensures c.unwrap_or-y.ensures in
     let at_reply = reply_full c.loop-n.codes c.loop-k.codes c.loop-k.len (take c.loop-n.len c.loop-n.codes) (replies_of o) k c.unwrap_or-y.result (rw number at c.loop-k-test.true) reply c.loop-k.invariant c.loop-k.auto.codes c.in_err-len.ensures in
     let at_challenge = challenge_full c.loop-i.codes c.loop-n.codes c.loop-n.len (take c.loop-i.len c.loop-i.codes) cs n inside c.loop-n.invariant c.loop-n.auto.codes at_reply in
@@ -33,7 +33,7 @@ loop-k-preserved g c =
     let m = g.M.Match.meaning c.args.game.now in
     let o = slice_get (m.at (get_or c.loop-i.codes c.loop-i.i 0)) c.loop-n.n in
     let k = c.loop-k.k in
-    let number = number_told o c.replies.result c.unwrap_or-k-end.result c.replies.ensures c.unwrap_or-k-end.ensures in
+    let number = c.replies_or-k-end.ensures in
     let reply = reply_told o k c.next.result c.unwrap_or-y.result c.next.ensures c.unwrap_or-y.ensures in
     reply_step c.loop-n.codes c.loop-k.codes c.loop-k.len (take c.loop-n.len c.loop-n.codes) (replies_of o) k c.unwrap_or-y.result (rw number at c.loop-k-test.true) reply c.loop-k.invariant c.add.new.codes c.in_ok-len.len c.in_ok-len.ensures
 
@@ -44,7 +44,7 @@ loop-n-preserved g c =
     let n = c.loop-n.n in
     let o = slice_get cs n in
     let inside : n < length cs = rw c.count-n-end.ensures at c.loop-n-test.true in
-    let number = number_told o c.replies.result c.unwrap_or-k-end.result c.replies.ensures c.unwrap_or-k-end.ensures in
+    let number = c.replies_or-k-end.ensures in
     let all : take c.loop-k.k (replies_of o) ≡ replies_of o = take_all c.loop-k.k (replies_of o) (rw number at c.loop-k-test.false) in
     challenge_step c.loop-i.codes c.loop-n.codes c.loop-n.len (take c.loop-i.len c.loop-i.codes) cs n inside c.loop-n.invariant c.loop-k.codes c.loop-k.len
     (subst (λ (rs : _). Grown c.loop-n.codes c.loop-k.codes c.loop-k.len (with_new (take c.loop-n.len c.loop-n.codes) rs)) all c.loop-k.invariant)
