@@ -27,15 +27,13 @@ fn four(names: &[Name]) -> u64
     ((digit(names, 0) * 16 + digit(names, 1)) * 16 + digit(names, 2)) * 16 + digit(names, 3)
 }
 
-// The digits that are names. An `if`, and not `filter`, with which decoding a code takes a fifth more instructions.
+// The digits that are names.
 fn used(digits: &[u8]) -> BoundedVec<u8, 4>
     ensures { held result ≡ take 4 (filter used_digit digits.now) }
 {
     let mut out = BoundedVec::new(0u8);
-    for d in digits {
-        if *d != 15 {
-            let _ = out.push(*d);
-        }
+    for d in digits.iter().filter(|d| **d != 15) {
+        let _ = out.push(*d);
     }
     out
 }

@@ -1,10 +1,11 @@
-use Rattle.std.proofs.Common.{take, filter, refl}
-use Rattle.lists.specs.Held.{held}
-use Rattle.lists.proofs.Extends.{emit_end, held_few}
+use Rattle.std.proofs.Common.{take, ap, ◌∙◌, rules}
+use Rattle.std.proofs.lemmas.Iterator.{YieldsList-from_slice}
+use Rattle.std.proofs.lemmas.Iterator.Consumers.{YieldsList-at, YieldsList-from_filter, YieldsList-end}
 use Rattle.pairs.specs.Decoding.{used_digit}
 use Rattle.pairs.proofs.coding.used.Goals as goal
 
 pub returns : goal.returns
 returns c =
-    emit_end 4 (filter used_digit) c.args.digits.now c.loop-d.d-index (held c.loop-d.out) (take 4 (filter used_digit c.args.digits.now)) c.loop-d-test.false
-    refl (held_few c.loop-d.out) c.loop-d.invariant
+    c.loop-d.invariant ∙ ap (take 4) (YieldsList-end
+    (YieldsList-at c.into_iter-d-iterator.ensures.into_iter_gives (YieldsList-from_filter _ used_digit (YieldsList-from_slice c.args.digits.now (cc)) c.filter-d-items.ensures.closure (λ x b q k. search rules)))
+    c.loop-d.yielded _ c.loop-d.yielded_by _ _ c.in-None.is c.next.ensures.steps).0
