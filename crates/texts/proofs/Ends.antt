@@ -43,7 +43,7 @@ pub pieces_last : (t : List ℕ) → None ≡ ended_at t → 0 < length t → pi
 pieces_last [] e h = absurd (omega arith)
 pieces_last (b ∷ t) e h = ap pieces (unsplit (b ∷ t) e)
 
--- there is no line without a byte
+-- each line takes a byte of the text at least, its 0A counted: an empty line is that byte alone
 longer_few : (b : ℕ) (ls : Lines) → length (pieces (longer b ls)) ≤ suc (length (pieces ls))
 longer_few b (last []) = omega arith
 longer_few b (last (c ∷ l)) = omega arith
